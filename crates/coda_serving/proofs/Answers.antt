@@ -17,14 +17,15 @@ use Rattle.coda_venus.specs.State.{ClientState as VenusState, client_after_all a
 use Rattle.coda_venus.specs.declared.refused.Refused.{Refused as VenusRefused}
 use Rattle.coda_venus.specs.declared.refused.Refused.TheVariants as venus
 use Rattle.coda_venus.specs.declared.venus.Venus.{Venus}
-use Rattle.coda_asking.specs.Answering.{Call, IsNext, LacksRoom as LacksRoomFor, Ends as EndsSo}
-use Rattle.coda_asking.specs.Fetching.{IsFetchable, IsFetch, Fetches}
-use Rattle.coda_asking.specs.Laws.{after_payloads}
+use Rattle.coda_serving.specs.Answering.{Call, IsNext, LacksRoom as LacksRoomFor, Ends as EndsSo}
+use Rattle.coda_serving.specs.Fetching.{IsFetchable, IsFetch, Fetches}
+use Rattle.coda_serving.specs.Laws.{after_payloads}
 use Rattle.coda_cell.specs.Asking.{Answer, answers}
 use Rattle.coda_cell.specs.Made.{client_of}
 use Rattle.coda_cell.specs.State.{ClientState, client_after, client_after_all}
 use Rattle.coda_cell.specs.Refused as refused
-use Rattle.coda_matching.specs.Clients.{payload_by, journal_by, refused_as, LacksRoom, Ends}
+use Rattle.coda_matching.specs.Clients.{payload_by, journal_by, LacksRoom, Ends}
+use Rattle.coda_cell.specs.Refusing.{client_refused_as}
 use Rattle.coda_serving.proofs.Pairs.{IsPair, parent_is, pair_fetched}
 
 -- an answer behind other entries
@@ -59,7 +60,7 @@ pub record AnswersAs {A R : Type 0} (offers : Option Nodes) (call : Call A R) (I
       → answer before c ≡ behind (fetch_by d fid node ∷ []) (answer (before ++ fid ∷ []) (client_after c (fetch_by d fid node)))
   pub lacks : (c : ClientState) (d : VenusState) → IsPair c d → (before : List Fid) (fid : Fid) → call.comes d ≡ Err (venus.Need fid) → ((node : Node) → ¬ IsFetchable offers d.held.nodes fid node)
       → answer before c ≡ answers [] (Err (refused.Miss fid))
-  pub refuses : (c : ClientState) (d : VenusState) → IsPair c d → (before : List Fid) (why : VenusRefused) → call.comes d ≡ Err why → NeedsNothing why → answer before c ≡ answers [] (Err (refused_as why))
+  pub refuses : (c : ClientState) (d : VenusState) → IsPair c d → (before : List Fid) (why : VenusRefused) → call.comes d ≡ Err why → NeedsNothing why → answer before c ≡ answers [] (Err (client_refused_as why))
   pub gives : (c : ClientState) (d : VenusState) → IsPair c d → (before : List Fid) (x : A) → call.comes d ≡ Ok x → Gives call IsAs before x (answer before c)
 
 -- ---- what was fetched
@@ -150,9 +151,9 @@ module _ {A R : Type 0} (offers : Option Nodes) (call : Call A R) (IsAs : Reply 
         )
 
     -- a refusal that needs nothing
-    own : (why : VenusRefused) → NeedsNothing why → call.comes there ≡ Err why → IsUp told header new (journal_by past) → ((answer fids here).said ≡ Err (refused_as why)) × IsUp told header new (journal_by (past ++ (answer fids here).entries))
+    own : (why : VenusRefused) → NeedsNothing why → call.comes there ≡ Err why → IsUp told header new (journal_by past) → ((answer fids here).said ≡ Err (client_refused_as why)) × IsUp told header new (journal_by (past ++ (answer fids here).entries))
     own why other comes up =
-        subst (λ (a : Answer). (a.said ≡ Err (refused_as why)) × IsUp told header new (journal_by (past ++ a.entries))) (sym (does.refuses here there pair fids why comes other)) (refl, nothing_more up)
+        subst (λ (a : Answer). (a.said ≡ Err (client_refused_as why)) × IsUp told header new (journal_by (past ++ a.entries))) (sym (does.refuses here there pair fids why comes other)) (refl, nothing_more up)
 
     no_room : LacksRoomFor header offers call (journal_by past) new → IsUp told header new (journal_by past) → EndsAs (answer fids here) (Err venus.JournalFull)
     no_room lacks up =

@@ -1,7 +1,11 @@
+pub mod Spelled
+pub mod Absent
+pub mod Calls
+pub mod Ended
+pub mod Brought
 pub mod Walks
 pub mod Needed
 pub mod Missed
-pub mod Renamed
 pub mod Orphans
 pub mod Pairs
 pub mod Answers

@@ -12,12 +12,12 @@ use Rattle.coda_tree.specs.Volume.{Nodes}
 use Rattle.coda_tree.specs.declared.node.Node.{Node}
 use Rattle.coda_tree.specs.declared.node.NodeKind.{NodeKind}
 use Rattle.coda_tree.specs.declared.node.NodeKind.TheVariants.{File, Link, Dir}
-use Rattle.coda_cell.specs.Accepting.{Accepted, Sight, next_fid, is_used_up, unless_used, new_at, new_in, new_under, new_place, at_root, accept_creation, store_in, store_at, setattr_at, remove_in, remove_at, rmdir_of, rmdir_in, rmdir_at, spot, held_bound, bound_in, bound_at, place, is_dir_at, with_version, replaced_by, move_to, rename_to, rename_root, accept_rename, accept_remove, accept_rmdir, accept}
-use Rattle.coda_cell.specs.Ask.{Asked, Create, Mkdir, Symlink, Store, Setattr, Remove, Rmdir, Rename, Ending, ending, front_of}
-use Rattle.coda_cell.specs.Held.{is_below}
-use Rattle.coda_cell.specs.Looking.{then_find, held, found, step_in, step_from, resolve}
-use Rattle.coda_cell.specs.Refused.{Refused}
-use Rattle.coda_cell.specs.Refused.{Miss, JournalFull, Exists, Loop, IsDir}
+use Rattle.coda_venus.specs.Accepting.{Accepted, Sight, next_fid, is_used_up, unless_used, new_at, new_in, new_under, new_place, at_root, accept_creation, store_in, store_at, setattr_at, remove_in, remove_at, rmdir_of, rmdir_in, rmdir_at, spot, held_bound, bound_in, bound_at, place, is_dir_at, with_version, replaced_by, move_to, rename_to, rename_root, accept_rename, accept_remove, accept_rmdir, accept}
+use Rattle.coda_venus.specs.Ask.{Asked, Create, Mkdir, Symlink, Store, Setattr, Remove, Rmdir, Rename, Ending, ending, front_of}
+use Rattle.coda_venus.specs.Held.{is_below}
+use Rattle.coda_venus.specs.Looking.{then_find, held, found, step_in, step_from, resolve}
+use Rattle.coda_venus.specs.declared.refused.Refused.{Refused}
+use Rattle.coda_venus.specs.declared.refused.Refused.TheVariants.{Need, JournalFull, Exists, Loop, IsDir}
 use Rattle.coda_serving.proofs.Needed.{walk}
 use Rattle.coda_serving.proofs.Walks.{Misses, first_or_then, misses_then, seen_misses, comes_then, err_is, resolve_push, ended, not_ended, held_is, resolve_has}
 
@@ -121,7 +121,7 @@ module _ (s : Sight) (volume : ℕ) (gone : Fid) where
   root_misses : (path : List Name) (refusal : Refused) → path ≡ [] → (Misses {A = Fid} (Err refusal) gone → ⊥) → Misses (at_root s volume refusal) gone → Misses (resolve s.held.nodes top path) gone
   root_misses path refusal nil other n = elim (first_or_then (held (map.get s.held.nodes top) top) (λ _. Err refusal) gone n) [
     | inl first ↦ ap (resolve s.held.nodes top) nil ∙ first
-    | inr then_ ↦ absurd (other (ap Err (err_is {A = Op} refusal (Miss gone) then_.misses)))
+    | inr then_ ↦ absurd (other (ap Err (err_is {A = Op} refusal (Need gone) then_.misses)))
   ]
 
   unless_never : (used : Bool) (fid : Fid) → Misses (unless_used used fid) gone → ⊥

@@ -8,12 +8,14 @@ use Rattle.coda_tree.proofs.Order.{get_here}
 use Rattle.coda_tree.specs.Bindings.{Name}
 use Rattle.coda_tree.specs.Volume.{Nodes, child, parent_of}
 use Rattle.coda_tree.specs.declared.node.Node.{Node}
-use Rattle.coda_cell.specs.Ask.{Asked, Create, Mkdir, Symlink, Store, Setattr, Remove, Rmdir, Rename, ending, front_of}
+use Rattle.coda_venus.specs.Ask.{Asked, Create, Mkdir, Symlink, Store, Setattr, Remove, Rmdir, Rename, ending, front_of}
 use Rattle.coda_cell.specs.Asking.{rename_look_ups, look_ups}
-use Rattle.coda_cell.specs.Held.{Held, Fetch, held_after_fetch, held_after_fetches}
-use Rattle.coda_cell.specs.Looking.{then_find, step_from, resolve, offered, fetch_of, look, look_on, look_along}
-use Rattle.coda_cell.specs.Refused.{Refused}
-use Rattle.coda_cell.specs.Refused.{Miss}
+use Rattle.coda_cell.specs.Held.{Fetch, held_after_fetches}
+use Rattle.coda_venus.specs.Held.{Held, held_after_fetch}
+use Rattle.coda_cell.specs.Looking.{offered, fetch_of, look, look_on, look_along}
+use Rattle.coda_venus.specs.Looking.{then_find, step_from, resolve}
+use Rattle.coda_venus.specs.declared.refused.Refused.{Refused}
+use Rattle.coda_venus.specs.declared.refused.Refused.TheVariants.{Need}
 use Rattle.coda_cell.proofs.Unlooked.{MissesNothing, no_look_along}
 use Rattle.coda_serving.proofs.Walks.{Misses, Comes, first_or_then, held_misses, step_misses, missing_absent, missing_bound, still_held, leads_still}
 
@@ -100,7 +102,7 @@ module _ (offers : Option Nodes) (h : Held) (gone : Fid) (node : Node) (offer : 
     where
       by : (o : Option Node) → map.get h.nodes at ≡ o → (then_ : Comes (step_from (map.get h.nodes at) at name) (λ next. resolve h.nodes next names) gone)
           → look_along offers h then_.found names ≡ first ∷ look_along offers after then_.found names → look_along offers h at (name ∷ names) ≡ first ∷ look_along offers after at (name ∷ names)
-      by None is then_ rest = (let no : Err (Miss at) ≡ Ok then_.found = sym (ap (λ o. step_from o at name) is) ∙ then_.is in cc)
+      by None is then_ rest = (let no : Err (Need at) ≡ Ok then_.found = sym (ap (λ o. step_from o at name) is) ∙ then_.is in cc)
       by (Some n) is then_ rest =
           let still = still_held h.nodes gone node absent at n is in
           along_on offers h at name names (no_look offers h at n is)
@@ -147,7 +149,7 @@ module _ (offers : Option Nodes) (h : Held) (gone : Fid) (offer : offered offers
   ]
     where
       by : (o : Option Node) → map.get h.nodes at ≡ o → (then_ : Comes (step_from (map.get h.nodes at) at name) (λ next. resolve h.nodes next names) gone) → look_along offers h then_.found names ≡ [] → look_along offers h at (name ∷ names) ≡ []
-      by None is then_ rest = (let no : Err (Miss at) ≡ Ok then_.found = sym (ap (λ o. step_from o at name) is) ∙ then_.is in cc)
+      by None is then_ rest = (let no : Err (Need at) ≡ Ok then_.found = sym (ap (λ o. step_from o at name) is) ∙ then_.is in cc)
       by (Some n) is then_ rest = along_on offers h at name names (no_look offers h at n is) ∙ ap (λ r. look_on r (λ next. look_along offers h next names)) then_.is ∙ rest
 
   rename_none : (volume : ℕ) (from to : List Name) → Misses (walk h.nodes volume (Rename from to)) gone → rename_look_ups offers h volume from to ≡ []

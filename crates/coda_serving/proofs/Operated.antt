@@ -21,10 +21,11 @@ use Rattle.coda_venus.specs.Looking as venus_looking
 use Rattle.coda_venus.specs.State.{ClientState as VenusState, ClientVolume as VenusVolume}
 use Rattle.coda_venus.specs.declared.refused.Refused.{Refused as VenusRefused}
 use Rattle.coda_venus.specs.declared.refused.Refused.TheVariants as venus
-use Rattle.coda_asking.specs.Answering.{operating}
-use Rattle.coda_asking.specs.Fetching.{offered, IsFetchable}
-use Rattle.coda_cell.specs.Accepting.{Accepted, sight_of, accept}
-use Rattle.coda_cell.specs.Ask.{Asked, object_of}
+use Rattle.coda_serving.specs.Answering.{operating}
+use Rattle.coda_serving.specs.Fetching.{offered, IsFetchable}
+use Rattle.coda_cell.specs.Accepting.{sight_of}
+use Rattle.coda_venus.specs.Accepting.{Accepted, accept}
+use Rattle.coda_venus.specs.Ask.{Asked, object_of}
 use Rattle.coda_cell.specs.Asking.{Answer, answers, look_ups, behind_fetches, next_record, has_room, is_full, answer_to, operate_unless, operate}
 use Rattle.coda_cell.specs.Held.{Fetch}
 use Rattle.coda_cell.specs.Looking.{entries_of}
@@ -32,13 +33,13 @@ use Rattle.coda_cell.specs.Looking as cell_looking
 use Rattle.coda_cell.specs.State.{ClientVolume, ClientState, client_after}
 use Rattle.coda_cell.specs.Refused as refused
 use Rattle.coda_cell.proofs.Unlooked.{MissesNothing, no_look_ups}
-use Rattle.coda_matching.specs.Clients.{IsOneVolume, refused_as, journal_by}
-use Rattle.coda_serving.specs.Serving.{asked_as, AreSpelledOffers, IsDone}
+use Rattle.coda_matching.specs.Clients.{IsOneVolume, journal_by}
+use Rattle.coda_cell.specs.Refusing.{client_refused_as}
+use Rattle.coda_serving.specs.Serving.{AreSpelledOffers, IsDone}
 use Rattle.coda_serving.proofs.Answers.{AnswersAs, Gives, NeedsNothing, behind, fetch_by}
 use Rattle.coda_serving.proofs.Missed.{walk_misses}
 use Rattle.coda_serving.proofs.Needed.{IsMissing, walk, walk_missing, look_ups_first, look_ups_none}
-use Rattle.coda_serving.proofs.Pairs.{IsPair, sight_is}
-use Rattle.coda_serving.proofs.Renamed.{renamed, too_big_is, object_is, accept_is}
+use Rattle.coda_serving.proofs.Pairs.{IsPair, nodes_are, sight_is}
 
 -- ---- what is offered
 
@@ -161,10 +162,10 @@ answer_behind e entries v time volume (Ok o) = made_behind e entries v volume o 
 
 -- a log or a journal that is full is told so
 made_full : (v : ClientVolume) (volume : ℕ) (o : Op) (rec next : Record) (why : VenusRefused) (room full : Bool)
-    → (let r : Result Record VenusRefused = cond room (cond full (Err venus.JournalFull) (Ok next)) (Err venus.LogFull) in r ≡ Err why) → made [] v volume o rec room full ≡ answers [] (Err (refused_as why))
-made_full v volume o rec next why true true x = ap (λ w. answers [] (Err (refused_as w))) (venus_err {A = Record} venus.JournalFull why x)
+    → (let r : Result Record VenusRefused = cond room (cond full (Err venus.JournalFull) (Ok next)) (Err venus.LogFull) in r ≡ Err why) → made [] v volume o rec room full ≡ answers [] (Err (client_refused_as why))
+made_full v volume o rec next why true true x = ap (λ w. answers [] (Err (client_refused_as w))) (venus_err {A = Record} venus.JournalFull why x)
 made_full v volume o rec next why true false x = cc
-made_full v volume o rec next why false full x = ap (λ w. answers [] (Err (refused_as w))) (venus_err {A = Record} venus.LogFull why x)
+made_full v volume o rec next why false full x = ap (λ w. answers [] (Err (client_refused_as w))) (venus_err {A = Record} venus.LogFull why x)
 
 -- and for no object
 full_never : (w : VenusVolume) (rec : Record) (fid : Fid) → unless_full w rec ≡ Err (venus.Need fid) → ⊥
@@ -176,7 +177,7 @@ full_never w rec fid x = by (venus_code.has_room w rec) (venus_code.is_full w) x
     by false full x = cc
 
 -- a refusal that needs nothing misses nothing
-pub misses_nothing : (why : VenusRefused) → NeedsNothing why → (let r : Accepted = Err (refused_as why) in MissesNothing r)
+pub misses_nothing : (why : VenusRefused) → NeedsNothing why → (let r : Accepted = Err why in MissesNothing r)
 misses_nothing venus.Down n = tt
 misses_nothing (venus.TooBig length) n = tt
 misses_nothing venus.NotFound n = tt
@@ -198,36 +199,33 @@ misses_nothing (venus.WrongNumber frozen number) n = tt
 misses_nothing venus.Memory n = tt
 
 module _ (offers : Option Nodes) (spelled : AreSpelledOffers offers) (time volume : ℕ) (ask : VenusAsked) where
-  abbrev asks : Asked
-  asks = asked_as ask
-
   -- what is answered behind these fetches
   abbrev with_fetches : ClientState → List Fetch → Answer
-  with_fetches c l = answer_to (entries_of l) (c.volumes volume) time volume (accept (sight_of (behind_fetches c l) volume) volume asks)
+  with_fetches c l = answer_to (entries_of l) (c.volumes volume) time volume (accept (sight_of (behind_fetches c l) volume) volume ask)
 
   -- content that isn't too long is looked up
-  looks_up : (c : ClientState) → venus_too_big ask ≡ None → operate offers c time volume asks ≡ with_fetches c (look_ups offers c.held volume asks)
+  looks_up : (c : ClientState) → venus_too_big ask ≡ None → operate offers c time volume ask ≡ with_fetches c (look_ups offers c.held volume ask)
   unfolding operate
-  looks_up c short = ap (λ big. operate_unless big offers c time volume asks) (too_big_is ask ∙ short)
+  looks_up c short = ap (λ big. operate_unless big offers c time volume ask) short
 
-  too_long : (c : ClientState) (n : ℕ) → venus_too_big ask ≡ Some n → operate offers c time volume asks ≡ answers [] (Err (refused.TooBig n))
+  too_long : (c : ClientState) (n : ℕ) → venus_too_big ask ≡ Some n → operate offers c time volume ask ≡ answers [] (Err (refused.TooBig n))
   unfolding operate
-  too_long c n long = ap (λ big. operate_unless big offers c time volume asks) (too_big_is ask ∙ long)
+  too_long c n long = ap (λ big. operate_unless big offers c time volume ask) long
 
   module _ (c : ClientState) (d : VenusState) (pair : IsPair c d) where
     -- both accept the same
-    accepts : (r : Result Op VenusRefused) → accepted volume time ask d ≡ r → accept (sight_of c volume) volume asks ≡ renamed r
-    accepts r is = ap (λ s. accept s volume asks) (sight_is c d volume pair.one) ∙ accept_is (venus_accepting.sight_of d volume) volume ask ∙ ap renamed is
+    accepts : (r : Result Op VenusRefused) → accepted volume time ask d ≡ r → accept (sight_of c volume) volume ask ≡ r
+    accepts r is = ap (λ s. accept s volume ask) (sight_is c d volume pair.one) ∙ is
 
     -- what acceptance needs, the walk misses
-    walks : (fid : Fid) → accepted volume time ask d ≡ Err (venus.Need fid) → walk c.held.nodes volume asks ≡ Err (refused.Miss fid)
-    walks fid is = walk_misses (sight_of c volume) volume fid asks (accepts (Err (venus.Need fid)) is)
+    walks : (fid : Fid) → accepted volume time ask d ≡ Err (venus.Need fid) → walk c.held.nodes volume ask ≡ Err (venus.Need fid)
+    walks fid is = walk_misses (sight_of c volume) volume fid ask (accepts (Err (venus.Need fid)) is)
 
     -- what needs nothing looks nothing up
-    at_once : (r : Result Op VenusRefused) → venus_too_big ask ≡ None → accepted volume time ask d ≡ r → MissesNothing (renamed r) → operate offers c time volume asks ≡ answer_to [] (c.volumes volume) time volume (renamed r)
+    at_once : (r : Result Op VenusRefused) → venus_too_big ask ≡ None → accepted volume time ask d ≡ r → MissesNothing r → operate offers c time volume ask ≡ answer_to [] (c.volumes volume) time volume r
     at_once r short is nothing =
         let seen = accepts r is in
-        let none = no_look_ups offers (sight_of c volume) volume asks (subst MissesNothing (sym seen) nothing) in
+        let none = no_look_ups offers (sight_of c volume) volume ask (subst MissesNothing (sym seen) nothing) in
         looks_up c short ∙ ap (with_fetches c) none ∙ ap (answer_to [] (c.volumes volume) time volume) seen
 
     -- an object that is needed is needed by acceptance
@@ -240,30 +238,30 @@ module _ (offers : Option Nodes) (spelled : AreSpelledOffers offers) (time volum
         by (Full o short takes full) = absurd (full_never (d.volumes volume) (record_of (d.volumes volume) time o) fid full)
 
     missing : (fid : Fid) → accepted volume time ask d ≡ Err (venus.Need fid) → IsMissing c.held.nodes volume fid
-    missing fid need = walk_missing c.held.nodes volume asks fid (walks fid need)
+    missing fid need = walk_missing c.held.nodes volume ask fid (walks fid need)
 
     needs : (fid : Fid) (node : Node) → operation d time volume ask ≡ Err (venus.Need fid) → IsFetchable offers d.held.nodes fid node
-        → operate offers c time volume asks ≡ behind (fetch_by d fid node ∷ []) (operate offers (client_after c (fetch_by d fid node)) time volume asks)
+        → operate offers c time volume ask ≡ behind (fetch_by d fid node ∷ []) (operate offers (client_after c (fetch_by d fid node)) time volume ask)
     needs fid node is can =
         let need = needed fid is in
         let miss = walks fid need.1 in
         let e = Fetched fid (parent_of c.held.nodes fid) node in
-        let first = look_ups_first offers c.held fid node (offers_are offers fid ∙ can.offer) (missing fid need.1).absent volume asks miss in
+        let first = look_ups_first offers c.held fid node (offers_are offers fid ∙ can.offer) (missing fid need.1).absent volume ask miss in
         looks_up c need.0 ∙ ap (with_fetches c) first
         ∙ answer_behind e _ (c.volumes volume) time volume _
         ∙ ap (behind (e ∷ [])) (sym (looks_up (client_after c e) need.0))
-        ∙ ap (λ (m : Nodes). behind (Fetched fid (parent_of m fid) node ∷ []) (operate offers (client_after c (Fetched fid (parent_of m fid) node)) time volume asks)) (sym pair.one.nodes)
+        ∙ ap (λ (m : Nodes). behind (Fetched fid (parent_of m fid) node ∷ []) (operate offers (client_after c (Fetched fid (parent_of m fid) node)) time volume ask)) (sym (nodes_are c d pair))
 
-    lacks : (fid : Fid) → operation d time volume ask ≡ Err (venus.Need fid) → ((node : Node) → ¬ IsFetchable offers d.held.nodes fid node) → operate offers c time volume asks ≡ answers [] (Err (refused.Miss fid))
+    lacks : (fid : Fid) → operation d time volume ask ≡ Err (venus.Need fid) → ((node : Node) → ¬ IsFetchable offers d.held.nodes fid node) → operate offers c time volume ask ≡ answers [] (Err (refused.Miss fid))
     lacks fid is unfetchable =
         let need = needed fid is in
-        let gone = not_offered offers d.held.nodes volume fid spelled (subst (λ m. IsMissing m volume fid) (sym pair.one.nodes) (missing fid need.1)) unfetchable in
-        let none = look_ups_none offers c.held fid gone volume asks (walks fid need.1) in
+        let gone = not_offered offers d.held.nodes volume fid spelled (subst (λ m. IsMissing m volume fid) (sym (nodes_are c d pair)) (missing fid need.1)) unfetchable in
+        let none = look_ups_none offers c.held fid gone volume ask (walks fid need.1) in
         looks_up c need.0 ∙ ap (with_fetches c) none ∙ ap (answer_to [] (c.volumes volume) time volume) (accepts (Err (venus.Need fid)) need.1)
 
     -- what is answered to an operation that is accepted
     is_made : (o : Op) → venus_too_big ask ≡ None → accepted volume time ask d ≡ Ok o
-        → operate offers c time volume asks ≡ made [] (c.volumes volume) volume o (next_record (c.volumes volume) time o) (venus_code.has_room (d.volumes volume) (record_of (d.volumes volume) time o)) (venus_code.is_full (d.volumes volume))
+        → operate offers c time volume ask ≡ made [] (c.volumes volume) volume o (next_record (c.volumes volume) time o) (venus_code.has_room (d.volumes volume) (record_of (d.volumes volume) time o)) (venus_code.is_full (d.volumes volume))
     is_made o short takes =
         let v = c.volumes volume in
         let w = d.volumes volume in
@@ -272,15 +270,15 @@ module _ (offers : Option Nodes) (spelled : AreSpelledOffers offers) (time volum
         ∙ (λ i. made [] v volume o (next_record v time o) (sym (room_is v w one (next_record v time o)) i) (sym (full_is v w one) i))
         ∙ ap (λ r. made [] v volume o (next_record v time o) (venus_code.has_room w r) (venus_code.is_full w)) (sym (record_is v w one time o))
 
-    refuses : (why : VenusRefused) → operation d time volume ask ≡ Err why → NeedsNothing why → operate offers c time volume asks ≡ answers [] (Err (refused_as why))
+    refuses : (why : VenusRefused) → operation d time volume ask ≡ Err why → NeedsNothing why → operate offers c time volume ask ≡ answers [] (Err (client_refused_as why))
     refuses why is other = by (refused_for volume time ask d why is)
       where
-        by : IsRefusedFor (d.volumes volume) (accepted volume time ask d) (venus_too_big ask) time why → operate offers c time volume asks ≡ answers [] (Err (refused_as why))
-        by (Long n big same) = too_long c n big ∙ ap (λ w. answers [] (Err (refused_as w))) (sym same)
+        by : IsRefusedFor (d.volumes volume) (accepted volume time ask d) (venus_too_big ask) time why → operate offers c time volume ask ≡ answers [] (Err (client_refused_as why))
+        by (Long n big same) = too_long c n big ∙ ap (λ w. answers [] (Err (client_refused_as w))) (sym same)
         by (Unaccepted short e) = at_once (Err why) short e (misses_nothing why other)
         by (Full o short takes full) = is_made o short takes ∙ made_full (c.volumes volume) volume o (next_record (c.volumes volume) time o) (record_of (d.volumes volume) time o) why _ _ full
 
-    gives : (before : List Fid) (rec : Record) → operation d time volume ask ≡ Ok rec → Gives (operating time volume ask) IsDone before rec (operate offers c time volume asks)
+    gives : (before : List Fid) (rec : Record) → operation d time volume ask ≡ Ok rec → Gives (operating time volume ask) IsDone before rec (operate offers c time volume ask)
     gives before rec is =
         let p = performed volume time ask d rec is in
         let v = c.volumes volume in
@@ -290,11 +288,11 @@ module _ (offers : Option Nodes) (spelled : AreSpelledOffers offers) (time volum
           entries = Did volume (Operated (next_record v time p.op)) ∷ [];
           is = is_made p.op p.short p.takes ∙ (λ i. made [] v volume p.op (next_record v time p.op) (p.room i) (p.few i));
           kept = ap (λ r. journal_by (Did volume (Operated r) ∷ [])) next;
-          says = ap (reply.Done (v.operations + 1)) (object_is p.op) ∙ ap (λ (r : Record). reply.Done (done_of r).number (done_of r).fid) next;
+          says = ap (λ (r : Record). reply.Done (done_of r).number (done_of r).fid) next;
         }
 
   -- an operation is answered as the client on a disk performs it
-  pub operates : AnswersAs offers (operating time volume ask) IsDone (λ before c. operate offers c time volume asks)
+  pub operates : AnswersAs offers (operating time volume ask) IsDone (λ before c. operate offers c time volume ask)
   operates = record {
     needs = λ c d pair before fid node is can. needs c d pair fid node is can;
     lacks = λ c d pair before fid is unfetchable. lacks c d pair fid is unfetchable;

@@ -10,19 +10,19 @@ use Rattle.coda_tree.specs.Volume.{Nodes, child, child_of}
 use Rattle.coda_tree.specs.declared.node.Node.{Node}
 use Rattle.coda_tree.specs.declared.node.NodeKind.{NodeKind}
 use Rattle.coda_tree.specs.declared.node.NodeKind.TheVariants.{File, Link, Dir}
-use Rattle.coda_cell.specs.Ask.{Ending, ending}
-use Rattle.coda_cell.specs.Looking.{then_find, held, found, step_in, step_from, resolve}
-use Rattle.coda_cell.specs.Refused.{Refused}
-use Rattle.coda_cell.specs.Refused.{Miss}
+use Rattle.coda_venus.specs.Ask.{Ending, ending}
+use Rattle.coda_venus.specs.Looking.{then_find, held, found, step_in, step_from, resolve}
+use Rattle.coda_venus.specs.declared.refused.Refused.{Refused}
+use Rattle.coda_venus.specs.declared.refused.Refused.TheVariants.{Need}
 
 -- this object is missing
 abbrev pub Misses : {A : Type 0} → Result A Refused → Fid → Type 0
-Misses r fid = r ≡ Err (Miss fid)
+Misses r fid = r ≡ Err (Need fid)
 
 pub err_is : {A : Type 0} (x y : Refused) → (let err : Refused → Result A Refused = λ z. Err z in err x ≡ err y) → x ≡ y
 err_is x y e = cc
 
-pub miss_is : {A : Type 0} (f g : Fid) → (let miss : Fid → Result A Refused = λ z. Err (Miss z) in miss f ≡ miss g) → f ≡ g
+pub miss_is : {A : Type 0} (f g : Fid) → (let miss : Fid → Result A Refused = λ z. Err (Need z) in miss f ≡ miss g) → f ≡ g
 miss_is f g e = cc
 
 pub not_missing : {A : Type 0} (x : A) (fid : Fid) → (let r : Result A Refused = Ok x in Misses r fid) → ⊥
@@ -36,7 +36,7 @@ pub record Comes {A B : Type 0} (r : Result A Refused) (next : A → Result B Re
 
 -- it is missed at first, or then
 pub first_or_then : {A B : Type 0} (r : Result A Refused) (next : A → Result B Refused) (fid : Fid) → Misses (then_find r next) fid → Misses r fid ⊎ Comes r next fid
-first_or_then {A} {B} (Err why) next fid e = inl (ap Err (err_is {A = B} why (Miss fid) e))
+first_or_then {A} {B} (Err why) next fid e = inl (ap Err (err_is {A = B} why (Need fid) e))
 first_or_then (Ok x) next fid e = inr (record { found = x; is = refl; misses = e })
 
 pub misses_then : {A B : Type 0} (r : Result A Refused) (next : A → Result B Refused) (fid : Fid) → Misses r fid → Misses (then_find r next) fid

@@ -13,14 +13,15 @@ use Rattle.coda_venus.specs.State.{new_client as new_venus, client_after_all as 
 use Rattle.coda_venus.specs.declared.refused.Refused.{Refused as VenusRefused}
 use Rattle.coda_venus.specs.declared.refused.Refused.TheVariants as venus
 use Rattle.coda_venus.specs.declared.venus.Venus.{Venus}
-use Rattle.coda_asking.specs.Answering.{Call, Answered, Ends as EndsSo}
-use Rattle.coda_asking.specs.Laws.{after_payloads}
+use Rattle.coda_serving.specs.Answering.{Call, Answered, Ends as EndsSo}
+use Rattle.coda_serving.specs.Laws.{after_payloads}
 use Rattle.coda_cell.specs.Asking.{Answer}
 use Rattle.coda_cell.specs.Made.{client_of}
 use Rattle.coda_cell.specs.State.{new_client, client_after_all}
 use Rattle.coda_cell.specs.Refused.{Refused}
 use Rattle.coda_cell.proofs.Fetches.{client_after_both}
-use Rattle.coda_matching.specs.Clients.{IsClientHistory, payload_by, journal_by, refused_as, Cut, LacksRoom, Ends}
+use Rattle.coda_matching.specs.Clients.{IsClientHistory, payload_by, journal_by, Cut, LacksRoom, Ends}
+use Rattle.coda_cell.specs.Refusing.{client_refused_as}
 use Rattle.coda_matching.proofs.Histories.{journals_leave_clients}
 use Rattle.coda_serving.proofs.Answers.{Answering, AnswersAs, IsBehind, fetched, ends}
 use Rattle.coda_serving.proofs.Orphans.{no_orphans}
@@ -36,7 +37,7 @@ module _ {D A B : Type 0} (told : D → Told) (header : Header) (past done entri
   up_behind : (l : List ClientEntry) → IsUp told header new (journal_by ((past ++ done) ++ l)) → IsUp told header new (journal_by (past ++ (done ++ l)))
   up_behind l up = subst (λ h. IsUp told header new (journal_by h)) (append_assoc past done l) up
 
-  own_behind : (why : VenusRefused) → (said ≡ Err (refused_as why)) × IsUp told header new (journal_by ((past ++ done) ++ entries)) → (said ≡ Err (refused_as why)) × IsUp told header new (journal_by (past ++ (done ++ entries)))
+  own_behind : (why : VenusRefused) → (said ≡ Err (client_refused_as why)) × IsUp told header new (journal_by ((past ++ done) ++ entries)) → (said ≡ Err (client_refused_as why)) × IsUp told header new (journal_by (past ++ (done ++ entries)))
   own_behind why e = (e.0, up_behind entries e.1)
 
   -- a call ends so that adds them first

@@ -9,29 +9,16 @@ use Rattle.coda_tree.specs.Volume.{Nodes}
 use Rattle.coda_tree.specs.declared.node.Node.{Node}
 use Rattle.coda_tree.specs.declared.node.NodeKind.{NodeKind}
 use Rattle.coda_tree.specs.declared.node.NodeKind.TheVariants.{File, Link, Dir}
-use Rattle.coda_venus.specs.Ask.{Asked as VenusAsked, Create as VenusCreate, Mkdir as VenusMkdir, Symlink as VenusSymlink, Store as VenusStore, Setattr as VenusSetattr, Remove as VenusRemove, Rmdir as VenusRmdir, Rename as VenusRename}
 use Rattle.coda_venus.specs.declared.done.Done.{Done}
 use Rattle.coda_venus.specs.declared.seen.Seen.{Seen}
-use Rattle.coda_asking.specs.Fetching.{offered}
-use Rattle.coda_asking.specs.Spelling.{can_be_spelled}
-use Rattle.coda_asking.specs.declared.asking.Showing.{Showing}
-use Rattle.coda_asking.specs.declared.asking.Showing.TheVariants.{Content, Names}
-use Rattle.coda_cell.specs.Ask.{Asked, Create, Mkdir, Symlink, Store, Setattr, Remove, Rmdir, Rename}
+use Rattle.coda_serving.specs.Fetching.{offered}
+use Rattle.coda_serving.specs.Spelling.{can_be_spelled}
+use Rattle.coda_serving.specs.declared.asking.Showing.{Showing}
+use Rattle.coda_serving.specs.declared.asking.Showing.TheVariants.{Content, Names}
 use Rattle.coda_cell.specs.Asking.{Answer, read, list}
 use Rattle.coda_cell.specs.State.{ClientState}
 
--- ---- what is asked
-
--- what a client on a disk is asked to do, as a client of a cell is
-abbrev pub asked_as : VenusAsked → Asked
-asked_as (VenusCreate path mode owner) = Create path mode owner
-asked_as (VenusMkdir path mode owner) = Mkdir path mode owner
-asked_as (VenusSymlink path target) = Symlink path target
-asked_as (VenusStore path content) = Store path content
-asked_as (VenusSetattr path attrs) = Setattr path attrs
-asked_as (VenusRemove path) = Remove path
-asked_as (VenusRmdir path) = Rmdir path
-asked_as (VenusRename from to) = Rename from to
+-- ---- what is shown
 
 -- what a client of a cell answers that is to show an object so
 abbrev pub show_answer : Showing → Option Nodes → ClientState → ℕ → List Name → Answer

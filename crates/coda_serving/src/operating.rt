@@ -8,12 +8,13 @@ ghost use Rattle.coda_record.specs.Table.{volume as a_volume};
 ghost use Rattle.coda_venus.specs.Ask.{asked, IsAskSpelled};
 ghost use Rattle.coda_venus.specs.Keeping.{Falls};
 ghost use Rattle.coda_venus.specs.Standing.{IsUp};
-ghost use Rattle.coda_asking.specs.Fetching.{nodes_offered};
+ghost use Rattle.coda_serving.specs.Fetching.{nodes_offered};
 ghost use Rattle.coda_cell.specs.Asking.{operate as operate_answer};
 ghost use Rattle.coda_cell.specs.Made.{client_of};
 ghost use Rattle.coda_matching.specs.Clients.{journal_by, IsClientHistory, Ends};
-ghost use Rattle.coda_serving.specs.Serving.{asked_as, AreSpelledOffers, IsDone};
+ghost use Rattle.coda_serving.specs.Serving.{AreSpelledOffers, IsDone};
 
+use crate::asking;
 use coda_disk::Disk;
 use coda_tree::Volume;
 use coda_venus::{Ask, Done, Refused, Venus};
@@ -24,7 +25,7 @@ use coda_venus::{Ask, Done, Refused, Venus};
 ///
 /// # Errors
 ///
-/// Those of `coda_asking::operate`: the reason for which the client of a cell refuses the operation, with `Need` of an
+/// Those of a client: the reason for which the client of a cell refuses the operation, with `Need` of an
 /// object where that one misses it. Then all that was fetched is kept. `JournalFull` for want of room in the journal
 /// too, and `DiskFault`, at one of the entries that were to be added: those before it are kept. `Memory`: some of them
 /// in front are kept. `Down` exactly where the client is down.
@@ -41,7 +42,7 @@ pub fn operate<D: Disk>(
         → IsUp D.told header venus.old (journal_by history) → IsClientHistory header history
         → AreSpelledOffers (nodes_offered offers.entry)
         → let c = client_of header.number history header.cache in
-        let answer = operate_answer (nodes_offered offers.entry) c now volume (asked_as (asked ask.now)) in
+        let answer = operate_answer (nodes_offered offers.entry) c now volume (asked ask.now) in
         Ends D.told header history answer.entries answer.said IsDone venus.new result }
     ensures down { venus.old.down ≡ true → (result ≡ Err Refused.Down) × (venus.new ≡ venus.old) }
     ensures only_down { result ≡ Err Refused.Down → venus.old.down ≡ true }
@@ -51,5 +52,5 @@ pub fn operate<D: Disk>(
         → Rose (D.faults venus.old.journal.disk) (D.faults venus.new.journal.disk) }
     ensures arms { D.arms venus.new.journal.disk ≡ D.arms venus.old.journal.disk }
 {
-    coda_asking::operate(venus, offers, now, volume, ask)
+    asking::operate(venus, offers, now, volume, ask)
 }

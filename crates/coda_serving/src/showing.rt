@@ -5,12 +5,12 @@ ghost use Rattle.coda_journal.specs.declared.header.Header.{Header as AskedHeade
 ghost use Rattle.coda_plain.specs.Cell.{ClientEntry};
 ghost use Rattle.coda_venus.specs.Keeping.{Falls};
 ghost use Rattle.coda_venus.specs.Standing.{IsUp};
-ghost use Rattle.coda_asking.specs.Fetching.{nodes_offered};
+ghost use Rattle.coda_serving.specs.Fetching.{nodes_offered};
 ghost use Rattle.coda_cell.specs.Made.{client_of};
 ghost use Rattle.coda_matching.specs.Clients.{journal_by, IsClientHistory, Ends};
 ghost use Rattle.coda_serving.specs.Serving.{show_answer, AreSpelledOffers, IsShown};
 
-use coda_asking::Showing;
+use crate::asking::{self, Showing};
 use coda_disk::Disk;
 use coda_fid::Path;
 use coda_tree::Volume;
@@ -23,7 +23,7 @@ use std::alloc::Global;
 ///
 /// # Errors
 ///
-/// Those of `coda_asking::show`: the reason for which the client of a cell refuses to show the object, with `Need` of
+/// Those of a client: the reason for which the client of a cell refuses to show the object, with `Need` of
 /// an object where that one misses it. Then all that was fetched is kept. `JournalFull` for want of room in the
 /// journal, and `DiskFault`, at one of the fetches: those before it are kept. `Memory`: some of them in front are kept.
 /// `Down` exactly where the client is down.
@@ -49,5 +49,5 @@ pub fn show<D: Disk>(
         → Rose (D.faults venus.old.journal.disk) (D.faults venus.new.journal.disk) }
     ensures arms { D.arms venus.new.journal.disk ≡ D.arms venus.old.journal.disk }
 {
-    coda_asking::show(alloc, venus, offers, what, volume, path)
+    asking::show(alloc, venus, offers, what, volume, path)
 }

@@ -15,7 +15,8 @@ use Rattle.coda_cell.specs.State.{Event, at_client}
 use Rattle.coda_cell.specs.Steps.{Does, Named, Doing, Naming, Unless, first_missing, reply_to}
 use Rattle.coda_cell.specs.Refused.{Refused}
 use Rattle.coda_cell.specs.Refused as refused
-use Rattle.coda_matching.specs.Clients.{Cut, refused_as}
+use Rattle.coda_matching.specs.Clients.{Cut}
+use Rattle.coda_cell.specs.Refusing.{client_refused_as}
 use Rattle.coda_shelves.specs.Cells.{Cell, after, after_all}
 use Rattle.coda_shelves.specs.Lines.{refused_down, refused_full, refused_fault, meets, FitsOne, Fits as FitsEvents, Stop, EndsBy, Acts, Becoming, UnlessDown}
 use Rattle.coda_site.specs.Sites.{IsSite}
@@ -100,7 +101,7 @@ RepliesTo f (Err reason.JournalFull) reply = reply ≡ refused_full
 RepliesTo f (Err reason.DiskFault) reply = reply ≡ refused_fault
 RepliesTo f (Err reason.Memory) reply = ⊥
 RepliesTo f (Err reason.Down) reply = Unit {0}
-RepliesTo f (Err why) reply = reply ≡ refusal (refused_as why)
+RepliesTo f (Err why) reply = reply ≡ refusal (client_refused_as why)
 
 -- where a client's entries stopped, of all events
 abbrev pub stop_of : (n : ℕ) (entries : List ClientEntry) → (cut : Cut entries) → Stop (map (at_client n) entries)
@@ -118,7 +119,7 @@ module _ {D B : Type 0} (told : D → Told) (out : ℕ → Bool) (has : ℕ → 
   whole : (reply : Reply) → FitsEvents cell (map (at_client n) entries) → reply ≡ reply_to said → IsSite told out has (after_all cell (map (at_client n) entries)) site → EndsSo reply
   whole reply fits same is = (after_all cell (map (at_client n) entries), inl (fits, same, refl), is)
 
-  refused_so : (why : VenusRefused) (reply : Reply) → said ≡ Err (refused_as why) → reply ≡ refusal (refused_as why) → reply ≡ reply_to said
+  refused_so : (why : VenusRefused) (reply : Reply) → said ≡ Err (client_refused_as why) → reply ≡ refusal (client_refused_as why) → reply ≡ reply_to said
   refused_so why reply is same = same ∙ sym (ap reply_to is)
 
   -- what happened of a client's entries, and the cell that the site stands for
@@ -148,7 +149,7 @@ module _ {D B : Type 0} (told : D → Told) (out : ℕ → Bool) (has : ℕ → 
 -- ---- replies of clients
 
 -- what the reply to a refusal of a client is
-pub refused_replies : {B : Type 0} (f : B → Reply) (why : VenusRefused) (reply : Reply) → (why ≡ reason.Memory → ⊥) → (((why ≡ reason.Down) → ⊥) → ((why ≡ reason.DiskFault) → ⊥) → reply ≡ refusal (refused_as why)) → (why ≡ reason.DiskFault → reply ≡ refused_fault) → RepliesTo f (Err why) reply
+pub refused_replies : {B : Type 0} (f : B → Reply) (why : VenusRefused) (reply : Reply) → (why ≡ reason.Memory → ⊥) → (((why ≡ reason.Down) → ⊥) → ((why ≡ reason.DiskFault) → ⊥) → reply ≡ refusal (client_refused_as why)) → (why ≡ reason.DiskFault → reply ≡ refused_fault) → RepliesTo f (Err why) reply
 refused_replies f reason.Down reply memory own fault = tt
 refused_replies f (reason.TooBig length) reply memory own fault = own (λ e. cc) (λ e. cc)
 refused_replies f reason.NotFound reply memory own fault = own (λ e. cc) (λ e. cc)

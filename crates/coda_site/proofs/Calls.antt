@@ -20,7 +20,8 @@ use Rattle.coda_cell.specs.Refusing.{refusal}
 use Rattle.coda_cell.specs.State.{at_client}
 use Rattle.coda_cell.specs.Steps.{ByClient, on_volume, first_missing, offers_of, reply_to}
 use Rattle.coda_cell.specs.Refused as refused
-use Rattle.coda_matching.specs.Clients.{refused_as, Ends}
+use Rattle.coda_matching.specs.Clients.{Ends}
+use Rattle.coda_cell.specs.Refusing.{client_refused_as}
 use Rattle.coda_serving.specs.Serving.{AreSpelledOffers}
 use Rattle.coda_shelves.specs.Cells.{Cell, state_of}
 use Rattle.coda_shelves.specs.Lines.{refused_down, refused_fault, client_down}
@@ -97,7 +98,7 @@ module _ {D B : Type 0} (told : D → Told) (out : ℕ → Bool) (has : ℕ → 
       ) b.2
 
 -- what is replied to a refusal
-pub refused_so : {B : Type 0} (f : B → Reply) (why : VenusRefused) (result : Result Reply CellFault) → ((why ≢ reason.Down) → (why ≢ reason.DiskFault) → IfOk result (λ said. said ≡ refusal (refused_as why))) → (why ≡ reason.DiskFault → IfOk result (λ said. said ≡ refused_fault))
+pub refused_so : {B : Type 0} (f : B → Reply) (why : VenusRefused) (result : Result Reply CellFault) → ((why ≢ reason.Down) → (why ≢ reason.DiskFault) → IfOk result (λ said. said ≡ refusal (client_refused_as why))) → (why ≡ reason.DiskFault → IfOk result (λ said. said ≡ refused_fault))
     → (why ≡ reason.Memory → result ≡ Err fault.Memory) → IfOk result (λ said. RepliesTo f (Err why) said)
 refused_so f why (Ok said) own disk memory = refused_replies f why said (λ m. (let no : Ok said ≡ Err fault.Memory = memory m in cc)) own disk
 refused_so f why (Err e) own disk memory = tt

@@ -13,7 +13,7 @@ use Rattle.coda_script.specs.declared.line.Task.{Task}
 use Rattle.coda_script.specs.declared.line.Task.TheVariants as task
 use Rattle.coda_script.specs.declared.reply.Reply.{Reply}
 use Rattle.coda_spelling.proofs.SpelledParts.{attrs_spelled}
-use Rattle.coda_cell.specs.Ask.{Asked}
+use Rattle.coda_venus.specs.Ask.{Asked}
 use Rattle.coda_cell.specs.Asking.{operate}
 use Rattle.coda_cell.specs.State.{Event}
 use Rattle.coda_cell.specs.Steps.{Naming, ByClient, Operates, DoesTask, on_volume}

@@ -35,7 +35,8 @@ use Rattle.coda_cell.specs.State.{Event, at_client}
 use Rattle.coda_cell.specs.Made.{client_of}
 use Rattle.coda_cell.specs.Refused.{Refused}
 use Rattle.coda_cell.specs.Refused as refused
-use Rattle.coda_matching.specs.Clients.{journal_by, payload_by, IsClientHistory, Cut, LacksRoom, refused_as, Ends}
+use Rattle.coda_matching.specs.Clients.{journal_by, payload_by, IsClientHistory, Cut, LacksRoom, Ends}
+use Rattle.coda_cell.specs.Refusing.{client_refused_as}
 use Rattle.coda_shelves.specs.Shelves.{client_journal}
 use Rattle.coda_shelves.specs.Cells.{Cell, asked, state_of, with_client, fallen, failing, failed, after, after_all}
 use Rattle.coda_shelves.specs.Lines.{LacksUnder, Lacks, Fits as FitsEvents}
@@ -273,7 +274,7 @@ Leaves told out has cell n entries said IsAs site (Err reason.DiskFault) =
     (cut : Cut entries) × FitsEvents cell (map (at_client n) cut.done) × IsSite told out has (failed (after_all cell (map (at_client n) cut.done)) (AtClient n cut.next)) site
 Leaves told out has cell n entries said IsAs site (Err reason.Memory) = (done : List ClientEntry) × (rest : List ClientEntry) × (entries ≡ done ++ rest) × IsSite told out has (after_all cell (map (at_client n) done)) site
 Leaves told out has cell n entries said IsAs site (Err reason.Down) = ⊥
-Leaves told out has cell n entries said IsAs site (Err why) = (said ≡ Err (refused_as why)) × FitsEvents cell (map (at_client n) entries) × IsSite told out has (after_all cell (map (at_client n) entries)) site
+Leaves told out has cell n entries said IsAs site (Err why) = (said ≡ Err (client_refused_as why)) × FitsEvents cell (map (at_client n) entries) × IsSite told out has (after_all cell (map (at_client n) entries)) site
 
 module _ {D : Type 0} (told : D → Told) (out : ℕ → Bool) (has : ℕ → Told) (cell : Cell) where
   -- the crew with another client of this number

@@ -54,8 +54,8 @@ use Rattle.coda_replica.proofs.Reading.{blocks_push, blocks_append}
 use Rattle.coda_spelling.specs.Spelled.{IsSpelled, AreAllSpelled}
 use Rattle.coda_spelling.proofs.SpelledParts.{is_within, setattr_parts, rename_parts, store_parts}
 use Rattle.coda_spelling.proofs.SpelledRecords.{records_are}
-use Rattle.coda_asking.specs.Spelling.{can_be_spelled, IsPairSpelled, AreSpelledTo}
-use Rattle.coda_asking.proofs.Spelled.{HasTypes, node_fits, content_fits, content_few, target_fits, target_few, bindings_fit}
+use Rattle.coda_serving.specs.Spelling.{can_be_spelled, IsPairSpelled, AreSpelledTo}
+use Rattle.coda_serving.proofs.Spelled.{HasTypes, node_fits, content_fits, content_few, target_fits, target_few, bindings_fit}
 use Rattle.coda_site.proofs.ClientSites.{reads_fit}
 
 -- ---- what nodes have, within their ranges

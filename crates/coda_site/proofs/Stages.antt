@@ -34,7 +34,8 @@ use Rattle.coda_cell.specs.Sending.{Ruling, decides, ruling_of, ruling, entries_
 use Rattle.coda_cell.specs.State.{Event, ReplicaState, at_client}
 use Rattle.coda_cell.specs.Refused.{Refused}
 use Rattle.coda_cell.specs.Refused as refused
-use Rattle.coda_matching.specs.Clients.{journal_by, IsClientHistory, Cut, refused_as}
+use Rattle.coda_matching.specs.Clients.{journal_by, IsClientHistory, Cut}
+use Rattle.coda_cell.specs.Refusing.{client_refused_as}
 use Rattle.coda_matching.specs.Replicas.{journal_at, RulingEnds}
 use Rattle.coda_sending.proofs.Kept.{ruled_so}
 use Rattle.coda_shelves.specs.Cells.{Cell, asked, failed, after_all}
@@ -102,21 +103,21 @@ module _ {D A B : Type 0} (told : D → Told) (out : ℕ → Bool) (has : ℕ �
   client_refused f reason.DiskFault reply ends is = (failed (after_all cell (map (at_client n) ends.0.done)) (AtClient n ends.0.next), inr (inr (stop ends.0, ends.1, is, refl)), ends.2)
   client_refused f reason.Memory reply ends is = absurd is
   client_refused f reason.Down reply ends is = absurd ends
-  client_refused f (reason.TooBig length) reply ends is = whole (refused_as (reason.TooBig length)) reply ends.0 is ends.1 ends.2
-  client_refused f reason.NotFound reply ends is = whole (refused_as reason.NotFound) reply ends.0 is ends.1 ends.2
-  client_refused f reason.NotDir reply ends is = whole (refused_as reason.NotDir) reply ends.0 is ends.1 ends.2
-  client_refused f reason.Exists reply ends is = whole (refused_as reason.Exists) reply ends.0 is ends.1 ends.2
-  client_refused f reason.IsDir reply ends is = whole (refused_as reason.IsDir) reply ends.0 is ends.1 ends.2
-  client_refused f reason.NotFile reply ends is = whole (refused_as reason.NotFile) reply ends.0 is ends.1 ends.2
-  client_refused f reason.NotEmpty reply ends is = whole (refused_as reason.NotEmpty) reply ends.0 is ends.1 ends.2
-  client_refused f reason.Loop reply ends is = whole (refused_as reason.Loop) reply ends.0 is ends.1 ends.2
-  client_refused f (reason.Need fid) reply ends is = whole (refused_as (reason.Need fid)) reply ends.0 is ends.1 ends.2
-  client_refused f reason.LogFull reply ends is = whole (refused_as reason.LogFull) reply ends.0 is ends.1 ends.2
-  client_refused f (reason.Frozen number home) reply ends is = whole (refused_as (reason.Frozen number home)) reply ends.0 is ends.1 ends.2
-  client_refused f reason.Nothing reply ends is = whole (refused_as reason.Nothing) reply ends.0 is ends.1 ends.2
-  client_refused f (reason.Young age window) reply ends is = whole (refused_as (reason.Young age window)) reply ends.0 is ends.1 ends.2
-  client_refused f (reason.NotFrozen number) reply ends is = whole (refused_as (reason.NotFrozen number)) reply ends.0 is ends.1 ends.2
-  client_refused f (reason.WrongNumber frozen number) reply ends is = whole (refused_as (reason.WrongNumber frozen number)) reply ends.0 is ends.1 ends.2
+  client_refused f (reason.TooBig length) reply ends is = whole (client_refused_as (reason.TooBig length)) reply ends.0 is ends.1 ends.2
+  client_refused f reason.NotFound reply ends is = whole (client_refused_as reason.NotFound) reply ends.0 is ends.1 ends.2
+  client_refused f reason.NotDir reply ends is = whole (client_refused_as reason.NotDir) reply ends.0 is ends.1 ends.2
+  client_refused f reason.Exists reply ends is = whole (client_refused_as reason.Exists) reply ends.0 is ends.1 ends.2
+  client_refused f reason.IsDir reply ends is = whole (client_refused_as reason.IsDir) reply ends.0 is ends.1 ends.2
+  client_refused f reason.NotFile reply ends is = whole (client_refused_as reason.NotFile) reply ends.0 is ends.1 ends.2
+  client_refused f reason.NotEmpty reply ends is = whole (client_refused_as reason.NotEmpty) reply ends.0 is ends.1 ends.2
+  client_refused f reason.Loop reply ends is = whole (client_refused_as reason.Loop) reply ends.0 is ends.1 ends.2
+  client_refused f (reason.Need fid) reply ends is = whole (client_refused_as (reason.Need fid)) reply ends.0 is ends.1 ends.2
+  client_refused f reason.LogFull reply ends is = whole (client_refused_as reason.LogFull) reply ends.0 is ends.1 ends.2
+  client_refused f (reason.Frozen number home) reply ends is = whole (client_refused_as (reason.Frozen number home)) reply ends.0 is ends.1 ends.2
+  client_refused f reason.Nothing reply ends is = whole (client_refused_as reason.Nothing) reply ends.0 is ends.1 ends.2
+  client_refused f (reason.Young age window) reply ends is = whole (client_refused_as (reason.Young age window)) reply ends.0 is ends.1 ends.2
+  client_refused f (reason.NotFrozen number) reply ends is = whole (client_refused_as (reason.NotFrozen number)) reply ends.0 is ends.1 ends.2
+  client_refused f (reason.WrongNumber frozen number) reply ends is = whole (client_refused_as (reason.WrongNumber frozen number)) reply ends.0 is ends.1 ends.2
 
 -- ---- a client that is up, later
 
@@ -314,10 +315,10 @@ no_memory : (result : Result Reply CellFault) (reply : Reply) (why : CellFault) 
 no_memory result reply why e memory = (let r : Result Reply CellFault = Ok reply in let no : r ≡ Err why = sym e ∙ memory in cc)
 
 pub refused_reply : {B : Type 0} (f : B → Reply) (result : Result Reply CellFault) (why : VenusRefused) (reply : Reply) → result ≡ Ok reply
-    → (why ≢ reason.Down → why ≢ reason.DiskFault → IfOk result (λ said. said ≡ refusal (refused_as why))) → (why ≡ reason.DiskFault → IfOk result (λ said. said ≡ refused_fault))
+    → (why ≢ reason.Down → why ≢ reason.DiskFault → IfOk result (λ said. said ≡ refusal (client_refused_as why))) → (why ≡ reason.DiskFault → IfOk result (λ said. said ≡ refused_fault))
     → (why ≡ reason.Memory → result ≡ Err cell_fault.Memory) → RepliesTo f (Err why) reply
 refused_reply f result why reply e own stops memory = refused_replies f why reply (λ is. no_memory result reply cell_fault.Memory e (memory is))
-    (λ up runs. said_ok (λ said. said ≡ refusal (refused_as why)) result reply e (own up runs)) (λ is. said_ok (λ said. said ≡ refused_fault) result reply e (stops is))
+    (λ up runs. said_ok (λ said. said ≡ refusal (client_refused_as why)) result reply e (own up runs)) (λ is. said_ok (λ said. said ≡ refused_fault) result reply e (stops is))
 
 same_ok : (x y : Reply) → (let r : Result Reply CellFault = Ok x in r ≡ Ok y) → x ≡ y
 same_ok x y e = cc

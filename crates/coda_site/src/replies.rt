@@ -4,7 +4,7 @@ ghost use Rattle.coda_cell.specs.Refusing.{refusal};
 ghost use Rattle.coda_cell.specs.Sending.{reply_answer};
 ghost use Rattle.coda_cell.specs.Messages.{reply_taken};
 ghost use Rattle.coda_cell.specs.Refused as refused;
-ghost use Rattle.coda_matching.specs.Clients.{refused_as};
+ghost use Rattle.coda_cell.specs.Refusing.{client_refused_as};
 ghost use Rattle.coda_shelves.specs.Lines.{refused_down, refused_full, refused_fault};
 ghost use Rattle.coda_site.specs.Totals.{IsFault};
 ghost use Rattle.coda_script.specs.declared.reply.Arg.{Arg as AnArg};
@@ -81,7 +81,7 @@ pub fn no_such_actor(alloc: Global, number: u32) -> Result<Reply, AllocError>
 /// `Memory` where the client had none, or there is none for the reply.
 pub fn refused(alloc: Global, why: Refused) -> Result<Reply, CellFault>
     ensures own { why ≢ Refused.Down → why ≢ Refused.DiskFault
-        → IfOk result (λ said. said ≡ refusal (refused_as why)) }
+        → IfOk result (λ said. said ≡ refusal (client_refused_as why)) }
     ensures down { why ≡ Refused.Down → IfOk result (λ said. said ≡ refused_down) }
     ensures fault { why ≡ Refused.DiskFault → IfOk result (λ said. said ≡ refused_fault) }
     ensures memory { why ≡ Refused.Memory → result ≡ Err CellFault.Memory }

@@ -10,11 +10,11 @@ ghost use Rattle.coda_record.specs.Table.{volume as a_volume};
 ghost use Rattle.coda_script.specs.Ranges.{TaskInRange};
 ghost use Rattle.coda_script.specs.declared.line.Line.TheVariants as line;
 ghost use Rattle.coda_venus.specs.Ask.{asked, IsAskSpelled};
-ghost use Rattle.coda_asking.specs.Fetching.{nodes_offered};
-ghost use Rattle.coda_cell.specs.Ask.{Store};
+ghost use Rattle.coda_serving.specs.Fetching.{nodes_offered};
+ghost use Rattle.coda_venus.specs.Ask.{Store};
 ghost use Rattle.coda_cell.specs.Asking.{operate as operate_answer};
 ghost use Rattle.coda_cell.specs.Steps.{is_built_task, bytes_of};
-ghost use Rattle.coda_serving.specs.Serving.{asked_as, show_answer, reply_of, IsDone, IsShown};
+ghost use Rattle.coda_serving.specs.Serving.{show_answer, reply_of, IsDone, IsShown};
 ghost use Rattle.coda_shelves.specs.Cells.{Cell};
 ghost use Rattle.coda_shelves.specs.Lines.{Happens};
 ghost use Rattle.coda_site.specs.Shelves.{Shows};
@@ -29,14 +29,13 @@ use crate::links::strength;
 use crate::replies::{no_such_actor, refuse, refused};
 use crate::site::{Place, Site};
 use coda_actors::Slot;
-use coda_asking::Showing;
 use coda_crew::{get, is_up};
 use coda_disk::{Bay, Disk};
 use coda_fid::{Bytes, Path};
 use coda_net::Net;
 use coda_replica::Replica;
 use coda_script::{Content, Readable, Refusal, Reply, Strength, Task};
-use coda_serving::{operate, show};
+use coda_serving::{Showing, operate, show};
 use coda_tree::{NodeKind, Volume};
 use coda_venus::{Ask, Done, Refused, Seen, Venus};
 use std::alloc::{AllocError, Global};
@@ -86,7 +85,7 @@ fn operate_in<D: Disk + Drop>(
     requires volume { HasSpelling a_volume volume }
     requires ask { IsAskSpelled (asked ask.now) }
     ensures ends { SlotEnds D.told (nodes_offered offers.entry)
-        (λ o c. operate_answer o c now volume (asked_as (asked ask.now))) slot.old slot.new IsDone result }
+        (λ o c. operate_answer o c now volume (asked ask.now)) slot.old slot.new IsDone result }
     ensures counts { IsCounted (IsErrOf result Refused.DiskFault) false (counts_in (client_form D.told) D.faults D.arms slot.old) (counts_in (client_form D.told) D.faults D.arms slot.new) }
 {
     match slot {
@@ -109,7 +108,7 @@ fn operate_at<D: Disk + Drop>(
     requires ask { IsAskSpelled (asked ask.now) }
     ensures slots { KeepsOtherSlots number clients.old clients.new }
     ensures ends { CallEnds D.told number (nodes_offered offers.entry)
-        (λ o c. operate_answer o c now volume (asked_as (asked ask.now))) clients.old clients.new IsDone result }
+        (λ o c. operate_answer o c now volume (asked ask.now)) clients.old clients.new IsDone result }
     ensures counts { IsCounted (IsErrOf result Refused.DiskFault) false (counts_of (client_form D.told) D.faults D.arms clients.old) (counts_of (client_form D.told) D.faults D.arms clients.new) }
 {
     let slot = clients.get_mut(&number).unwrap();
@@ -188,7 +187,7 @@ fn perform<B: Bay>(
     ensures does { (cell : Cell)
         → Shows B.D.told (B.out _bay.now) (B.has _bay.now) cell site.old
         → IfOk result (λ reply. Becomes B.D.told (B.out _bay.now) (B.has _bay.now)
-        (Asks cell client volume (λ o c. operate_answer o c cell.clock volume (asked_as (asked ask.entry))))
+        (Asks cell client volume (λ o c. operate_answer o c cell.clock volume (asked ask.entry)))
         reply (B.answered _bay.now) (B.answered _bay.now) site.new) }
     ensures net { site.new.net ≡ site.old.net }
     ensures memory { IfErr result (λ why. why ≡ CellFault.Memory) }

@@ -1,6 +1,6 @@
 use Rattle.std.proofs.Common.{sym, subst}
-use Rattle.coda_asking.specs.Answering.{showing}
-use Rattle.coda_asking.specs.Fetching.{nodes_offered}
+use Rattle.coda_serving.specs.Answering.{showing}
+use Rattle.coda_serving.specs.Fetching.{nodes_offered}
 use Rattle.coda_cell.specs.Asking.{Answer}
 use Rattle.coda_cell.specs.Made.{client_of}
 use Rattle.coda_matching.specs.Clients.{Ends}

@@ -1,7 +1,7 @@
 use Rattle.std.proofs.Common.{refl}
-use Rattle.coda_asking.specs.declared.asking.Showing.TheVariants.{Content, Names}
+use Rattle.coda_serving.specs.declared.asking.Showing.TheVariants.{Content, Names}
 use Rattle.coda_script.specs.declared.line.Task.TheVariants as task
-use Rattle.coda_cell.specs.Ask.{Store}
+use Rattle.coda_venus.specs.Ask.{Store}
 use Rattle.coda_cell.specs.Steps.{bytes_of}
 use Rattle.coda_serving.specs.Serving.{show_answer}
 use Rattle.coda_site.proofs.Carrying.{operated_task, asked_task, drained_as}

@@ -1,6 +1,6 @@
 use Rattle.std.proofs.Common.{refl}
 use Rattle.coda_script.specs.declared.line.Task.TheVariants as task
-use Rattle.coda_cell.specs.Ask.{Setattr, Remove, Rmdir, Rename}
+use Rattle.coda_venus.specs.Ask.{Setattr, Remove, Rmdir, Rename}
 use Rattle.coda_site.proofs.Carrying.{attrs_so, operated_task}
 use Rattle.coda_site.proofs.tasks.change.Goals as goal
 

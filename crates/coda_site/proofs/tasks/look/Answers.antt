@@ -4,7 +4,7 @@ use Rattle.std.proofs.lemmas.Result.{IfOk-weaker}
 use Rattle.std.specs.Prelude.{Bool}
 use Rattle.coda_venus.specs.declared.seen.Seen.{Seen}
 use Rattle.coda_serving.specs.Serving.{show_answer, reply_of, IsShown}
-use Rattle.coda_asking.specs.Fetching.{nodes_offered}
+use Rattle.coda_serving.specs.Fetching.{nodes_offered}
 use Rattle.coda_site.specs.Sites.{client_at, volume_at}
 use Rattle.coda_site.specs.Steps.{Becomes}
 use Rattle.coda_site.specs.Tasks.{Asks}

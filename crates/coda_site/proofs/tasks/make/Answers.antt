@@ -1,7 +1,7 @@
 use Rattle.std.proofs.Common.{refl}
 use Rattle.std.specs.Option.{unwrap_or}
 use Rattle.coda_script.specs.declared.line.Task.TheVariants as task
-use Rattle.coda_cell.specs.Ask.{Create, Mkdir, Symlink}
+use Rattle.coda_venus.specs.Ask.{Create, Mkdir, Symlink}
 use Rattle.coda_site.proofs.Carrying.{operated_task}
 use Rattle.coda_site.proofs.tasks.make.Goals as goal
 

@@ -1,6 +1,6 @@
 use Rattle.std.proofs.Common.{sym, ap, ◌∙◌}
 use Rattle.coda_cell.specs.Steps.{bytes_of}
-use Rattle.coda_cell.specs.Ask.{Store}
+use Rattle.coda_venus.specs.Ask.{Store}
 use Rattle.coda_site.proofs.Carrying.{asked_same}
 use Rattle.coda_site.proofs.tasks.store.Goals as goal
 

@@ -1,5 +1,0 @@
-pub mod Spelling
-pub mod Fetching
-pub mod Unfetched
-pub mod Answering
-pub mod Laws
