@@ -13,10 +13,12 @@ use Rattle.coda_tree.specs.declared.node.NodeKind.TheVariants.{File, Link, Dir}
 use Rattle.coda_tree.specs.Bindings.{Name}
 use Rattle.coda_tree.specs.Volume.{Nodes, has, parent_of}
 use Rattle.coda_tree.proofs.Order.{get_here, get_else}
-use Rattle.coda_cell.specs.Refused.{Refused}
+use Rattle.coda_venus.specs.declared.refused.Refused.{Refused}
 use Rattle.coda_cell.specs.State.{ClientState, client_after_all}
-use Rattle.coda_cell.specs.Held.{Held, Fetch, held_after_fetches}
-use Rattle.coda_cell.specs.Looking.{then_find, held, step_from, resolve, offered, fetch_of, look, looked, look_on, look_along, fids_of, is_fetched, entries_of}
+use Rattle.coda_cell.specs.Held.{Fetch, held_after_fetches}
+use Rattle.coda_venus.specs.Held.{Held}
+use Rattle.coda_cell.specs.Looking.{offered, fetch_of, look, looked, look_on, look_along, fids_of, is_fetched, entries_of}
+use Rattle.coda_venus.specs.Looking.{then_find, held, step_from, resolve}
 use Rattle.coda_cell.specs.Asking.{Said, read_in, list_in, shown_as, shown_at}
 use Rattle.coda_main.specs.Cached.{says_fetched, CachedIsHeld}
 use Rattle.coda_cell.proofs.Fetches.{held_after_both, client_after_fetches}

@@ -6,7 +6,7 @@ use Rattle.coda_tree.specs.Bindings.{Name}
 use Rattle.coda_tree.specs.Volume.{Nodes, has}
 use Rattle.coda_script.specs.declared.reply.Reply.TheVariants.{Read, Listed}
 use Rattle.coda_cell.specs.State.{ClientState, client_after_all}
-use Rattle.coda_cell.specs.Looking.{resolve}
+use Rattle.coda_venus.specs.Looking.{resolve}
 use Rattle.coda_cell.specs.Asking.{Said, Answer, read, list}
 
 -- whether a reply says `fetched` of what it shows, or `cached`, where it shows something

@@ -24,12 +24,14 @@ use Rattle.coda_script.specs.declared.reply.Reply.{Reply}
 use Rattle.coda_script.specs.declared.reply.Reply.TheVariants.{Done}
 use Rattle.coda_tree.specs.declared.node.Node.{Node}
 use Rattle.coda_tree.specs.Volume.{Nodes}
-use Rattle.coda_cell.specs.Accepting.{Accepted, sight_of, accept}
-use Rattle.coda_cell.specs.Ask.{Asked, too_big}
+use Rattle.coda_cell.specs.Accepting.{sight_of}
+use Rattle.coda_venus.specs.Accepting.{Accepted, accept}
+use Rattle.coda_venus.specs.Ask.{Asked, too_big}
 use Rattle.coda_cell.specs.Asking.{Said, Answer, answers, look_ups, behind_fetches, next_record, has_room, is_full, answer_to, operate_unless, operate}
 use Rattle.coda_cell.specs.Held.{Fetch}
 use Rattle.coda_cell.specs.Looking.{entries_of}
 use Rattle.coda_cell.specs.Messages.{over, posting, going_by, sends_of, ruled_in, taken_in}
+use Rattle.coda_cell.specs.Refusing.{client_refused_as}
 use Rattle.coda_cell.specs.Refused.{Refused}
 use Rattle.coda_cell.specs.Refused as refused
 use Rattle.coda_cell.specs.Sending.{Freezing, frozen_now, frozen_unless, freezing_of, freezing, Ruling, decides, ruling_of, Taking, taken_unless, taking, deeds_at, entries_at, answered_to, ruled_on, drained_of, drain}
@@ -192,7 +194,7 @@ module _ (P : Event → Type 0) (client volume : ℕ) where
     chosen_little fetches deed false full number object none kept = fetched_little fetches kept
 
     answer_little : (fetches : List Fetch) (known : ClientVolume) (time : ℕ) (accepted : Accepted) → LittleAnswer (answer_to (entries_of fetches) known time volume accepted)
-    answer_little fetches known time (Err why) = fetched_little fetches (Err why)
+    answer_little fetches known time (Err why) = fetched_little fetches (Err (client_refused_as why))
     answer_little fetches known time (Ok op) = (let rec = next_record known time op in chosen_little fetches (Operated rec) (has_room known rec) (is_full known) _ _ _ _)
 
     unless_little : (o : Option ℕ) (offers : Option Nodes) (known : ClientState) (time : ℕ) (ask : Asked) → LittleAnswer (operate_unless o offers known time volume ask)

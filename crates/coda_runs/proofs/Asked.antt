@@ -28,20 +28,23 @@ use Rattle.coda_script.specs.declared.line.Task.{Task}
 use Rattle.coda_script.specs.declared.line.Task.TheVariants as task
 use Rattle.coda_script.specs.declared.reply.Reply.{Reply}
 use Rattle.coda_script.specs.declared.reply.Reply.TheVariants.{Done}
+use Rattle.coda_venus.specs.declared.refused.Refused.{Refused as ClientRefused}
 use Rattle.coda_cell.specs.Refused.{Refused}
 use Rattle.coda_cell.specs.Refused as refused
-use Rattle.coda_cell.specs.Ask.{Asked, Create, Mkdir, Symlink, Store, Setattr, Remove, Rmdir, Rename, ending, too_big, object_of}
+use Rattle.coda_venus.specs.Ask.{Asked, Create, Mkdir, Symlink, Store, Setattr, Remove, Rmdir, Rename, ending, too_big, object_of}
 use Rattle.coda_cell.specs.Asking.{Said, Answer, answers, look_ups, behind_fetches, next_record, has_room, is_full, answer_to, operate_unless, operate, read, list, shown_at, shown_as, read_in, list_in}
 use Rattle.coda_cell.specs.Held.{held_after_fetches, Fetch}
-use Rattle.coda_cell.specs.Looking.{resolve, entries_of, is_fetched}
-use Rattle.coda_cell.specs.Accepting.{Accepted, Sight, sight_of, store_at, setattr_at, accept}
+use Rattle.coda_cell.specs.Looking.{entries_of, is_fetched}
+use Rattle.coda_venus.specs.Looking.{resolve}
+use Rattle.coda_cell.specs.Accepting.{sight_of}
+use Rattle.coda_venus.specs.Accepting.{Accepted, Sight, store_at, setattr_at, accept}
 use Rattle.coda_cell.specs.Made.{client_of}
 use Rattle.coda_cell.proofs.Histories.{number_stays}
 use Rattle.coda_cell.specs.State.{pending, new_client, ClientVolume, ClientState, client_after_all, ReplicaState, CellState, Event, after_all, at_client}
 use Rattle.coda_cell.specs.Refusing.{refusal}
 use Rattle.coda_cell.specs.Sending.{Freezing, freezing, Ruling, ruling, Taking, taking, answered_to, ruled_on, drained_of, drain}
 use Rattle.coda_cell.specs.Steps.{Doing, Unless, first_missing, on_volume, on_holder, offers_of, reply_to, ByClient, ByBoth, bytes_of, DoesTask, Does}
-use Rattle.coda_cell.proofs.Accepted.{MayMove, Relies, found_then, accepted_relies}
+use Rattle.coda_venus.proofs.Accepted.{MayMove, Relies, found_then, accepted_relies}
 use Rattle.coda_cell.proofs.AfterOperations.{newly_bound, still_bound, bound_before, IsBoundBy}
 use Rattle.coda_cell.proofs.Events.{after_client}
 use Rattle.coda_cell.proofs.Families.{put_here}
@@ -52,6 +55,7 @@ use Rattle.coda_shelves.specs.Cells.{Cell, asked, state_of}
 use Rattle.coda_shelves.specs.Lines.{is_cut, task_on, refused_down, refused_full, refused_fault}
 use Rattle.coda_runs.specs.Performed.{CanReach, HasNoOther, Stamp, IsVersionOf, IsNew, IsStored, IsSet, IsGone, IsMoved, OthersStay, content_of, DoesAsked, IsPerformed, WasPerformed, OperationsArePerformed}
 use Rattle.coda_runs.proofs.Performed.{leads, creation_made, made_new, store_at_stored, stored_so, setattr_changed, changed_so, IsNoDir, accept_removed, accept_rmdir_removed, removed_so, accept_renamed, apart_names, rename_leaves, replaced_so}
+use Rattle.coda_runs.proofs.Parents.{KeepsParents, keeps_own, keeps_look_parents}
 use Rattle.coda_runs.proofs.Served.{Keeps, keeps_look, has_fetched, put_off, reaches}
 use Rattle.coda_runs.proofs.Unchanged.{moved_whole, others_stay}
 use Rattle.coda_runs.proofs.Meeting.{met, IsMet, ShowsAs, clients_as, Ends, WasDown, DidAll, LackedRoom, HadFault, line_ends}
@@ -265,6 +269,7 @@ module _ (s : CellState) (Reaches : ℕ → ℕ → ℕ → Type 0) (number : �
       let rec = next_record (c.volumes volume) s.clock x.op in
       let sight = sight_of (behind_fetches c fetches) volume in
       let v = c.volumes volume in
+      let kept : KeepsParents c.held (held_after_fetches c.held fetches) = keeps_look_ups (KeepsParents c.held) offers (keeps_look_parents c.held offers) c.held volume ask (keeps_own c.held) in
       record {
         before = (held_after_fetches c.held fetches).nodes;
         fetched = has_fetched s client volume (Reaches client volume) reach c.held fetches (keeps_look_ups (Keeps c.held.nodes) offers (keeps_look c.held.nodes offers) c.held volume ask (λ fid node is. is)) (fetched_is_offered offers c.held volume ask);
@@ -280,6 +285,8 @@ module _ (s : CellState) (Reaches : ℕ → ℕ → ℕ → Type 0) (number : �
         next = x.number_is;
         replays = refl;
         parents = sight.held.parents;
+        own = kept.own;
+        found = kept.found;
         holds = refl;
       }
 
@@ -332,7 +339,7 @@ module _ (s : CellState) (Reaches : ℕ → ℕ → ℕ → Type 0) (number : �
   not_listed fetched (Link target) is = cc
   not_listed fetched (Dir entries) is = cc
 
-  not_shown : (show : Bool → NodeKind → Said) → ((fetched : Bool) (kind : NodeKind) → IsDone (show fetched kind) → ⊥) → (fetches : List Fetch) (nodes : Nodes) (r : Result Fid Refused) → IsDone (shown_at show fetches nodes r) → ⊥
+  not_shown : (show : Bool → NodeKind → Said) → ((fetched : Bool) (kind : NodeKind) → IsDone (show fetched kind) → ⊥) → (fetches : List Fetch) (nodes : Nodes) (r : Result Fid ClientRefused) → IsDone (shown_at show fetches nodes r) → ⊥
   not_shown show never fetches nodes (Err why) is = cc
   not_shown show never fetches nodes (Ok fid) is = by (map.get nodes fid) is
     where

@@ -13,6 +13,7 @@ pub mod Thawed
 pub mod Performed
 pub mod Unchanged
 pub mod Served
+pub mod Parents
 pub mod Asked
 pub mod Shown
 pub mod Causes

@@ -17,10 +17,13 @@ use Rattle.coda_script.specs.declared.line.Task.TheVariants as task
 use Rattle.coda_script.specs.declared.reply.Reply.{Reply}
 use Rattle.coda_script.specs.declared.reply.Reply.TheVariants.{Done}
 use Rattle.coda_cell.specs.Accepting.{sight_of}
-use Rattle.coda_cell.specs.Ask.{Asked, Create, Mkdir, Symlink, Store, Setattr, Remove, Rmdir, Rename}
+use Rattle.coda_venus.specs.Ask.{Asked, Create, Mkdir, Symlink, Store, Setattr, Remove, Rmdir, Rename}
 use Rattle.coda_cell.specs.Asking.{Said, look_ups, behind_fetches, operate, shown_as, shown_at, show_object, read_in, list_in}
 use Rattle.coda_cell.specs.Held.{Fetch, held_after_fetches}
-use Rattle.coda_cell.specs.Looking.{resolve, offered, look_along, is_fetched}
+use Rattle.coda_cell.specs.Looking.{offered, look_along, is_fetched}
+use Rattle.coda_venus.specs.Looking.{resolve}
+use Rattle.coda_venus.specs.declared.refused.Refused.{Refused as ClientRefused}
+use Rattle.coda_cell.specs.Refusing.{client_refused_as}
 use Rattle.coda_cell.specs.Refused.{Refused}
 use Rattle.coda_cell.specs.Refused as refused
 use Rattle.coda_cell.specs.Refusing.{refusal}
@@ -102,8 +105,8 @@ module _ (s : CellState) (events : List Event) (fid : Fid) where
           way_so (offers_of s client volume) m (root_of volume) path fid (refused.Miss at) sought (unheld_at m (root_of volume) path at (refused.Miss at) (leads m (root_of volume) path at is) refl none) (is_miss_of fid (refused.Miss at) answered)
       by_node m fetched at sought is (Some node) there answered = absurd (all fid fetched node.kind answered)
 
-      by : (m : Nodes) (fetches : List Fetch) → AreSought (offers_of s client volume) m (root_of volume) path → (r : Result Fid Refused) → resolve m (root_of volume) path ≡ r → refusal (refused.Miss fid) ≡ reply_to (shown_at show fetches m r) → offered (offers_of s client volume) fid ≡ None
-      by m fetches sought (Err why) e is = way_so (offers_of s client volume) m (root_of volume) path fid why sought (way_cause m (root_of volume) path why e) (is_miss_of fid why is)
+      by : (m : Nodes) (fetches : List Fetch) → AreSought (offers_of s client volume) m (root_of volume) path → (r : Result Fid ClientRefused) → resolve m (root_of volume) path ≡ r → refusal (refused.Miss fid) ≡ reply_to (shown_at show fetches m r) → offered (offers_of s client volume) fid ≡ None
+      by m fetches sought (Err why) e is = way_so (offers_of s client volume) m (root_of volume) path fid (client_refused_as why) sought (way_cause m (root_of volume) path why e) (is_miss_of fid (client_refused_as why) is)
       by m fetches sought (Ok at) e is = by_node m (is_fetched fetches at) at sought e (map.get m at) refl is
 
   not_full : (v : ClientVolume) (why : Refused) → why ≡ refused.Miss fid → IsFull v why → ⊥
@@ -122,7 +125,7 @@ module _ (s : CellState) (events : List Event) (fid : Fid) where
         | IsRefused why said entries cause ↦ (
             let miss = is_miss_of fid why (did.answered ∙ ap reply_to said) in
             elim cause [
-              | inl isnt ↦ asked_so offers sight volume fid why miss ask (looks_for offers c.held volume ask) isnt
+              | inl isnt ↦ asked_so offers sight volume fid isnt.0 (sym isnt.1 ∙ miss) ask (looks_for offers c.held volume ask) isnt.2
               | inr full ↦ absurd (not_full (c.volumes volume) why miss full)
             ]
             )

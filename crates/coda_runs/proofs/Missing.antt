@@ -11,11 +11,15 @@ use Rattle.coda_tree.specs.declared.node.NodeKind.TheVariants.{File, Link, Dir}
 use Rattle.coda_fid.specs.Name.{name_cmp}
 use Rattle.coda_tree.specs.Bindings.{Name}
 use Rattle.coda_tree.specs.Volume.{Nodes, bindings, child, child_of}
-use Rattle.coda_cell.specs.Ask.{Asked, Create, Mkdir, Symlink, Store, Setattr, Remove, Rmdir, Rename, Ending, ending, front_of}
+use Rattle.coda_venus.specs.Ask.{Asked, Create, Mkdir, Symlink, Store, Setattr, Remove, Rmdir, Rename, Ending, ending, front_of}
 use Rattle.coda_cell.specs.Asking.{look_ups, rename_look_ups}
-use Rattle.coda_cell.specs.Held.{Held, held_after_fetches}
-use Rattle.coda_cell.specs.Looking.{then_find, held, found, step_in, step_from, resolve, offered, look_on, look_along}
-use Rattle.coda_cell.specs.Accepting.{Sight, accept}
+use Rattle.coda_cell.specs.Held.{held_after_fetches}
+use Rattle.coda_venus.specs.Held.{Held}
+use Rattle.coda_cell.specs.Looking.{offered, look_on, look_along}
+use Rattle.coda_venus.specs.Looking.{then_find, held, found, step_in, step_from, resolve}
+use Rattle.coda_venus.specs.Accepting.{Sight, accept}
+use Rattle.coda_venus.specs.declared.refused.Refused.{Refused as ClientRefused}
+use Rattle.coda_cell.specs.Refusing.{client_refused_as}
 use Rattle.coda_cell.specs.Refused.{Refused}
 use Rattle.coda_cell.specs.Refused as refused
 use Rattle.coda_cell.proofs.Fetches.{held_after_both}
@@ -116,7 +120,11 @@ AreSoughtFor offers m volume (Remove path) = AreSought offers m (root_of volume)
 AreSoughtFor offers m volume (Rmdir path) = AreSought offers m (root_of volume) path
 AreSoughtFor offers m volume (Rename from to) = AreSought offers m (root_of volume) from × ((fid : Fid) → Leads m (root_of volume) from fid → AreSought offers m (root_of volume) to)
 
-module _ (offers : Option Nodes) (s : Sight) (volume : ℕ) (fid : Fid) (why : Refused) (miss : why ≡ refused.Miss fid) where
+module _ (offers : Option Nodes) (s : Sight) (volume : ℕ) (fid : Fid) (refusal : ClientRefused) (miss : client_refused_as refusal ≡ refused.Miss fid) where
+  -- why the line is refused
+  abbrev why : Refused
+  why = client_refused_as refusal
+
   abbrev nodes : Nodes
   nodes = s.held.nodes
 
@@ -157,18 +165,18 @@ module _ (offers : Option Nodes) (s : Sight) (volume : ℕ) (fid : Fid) (why : R
   rename_so from to old new (NewIsBelow is below) = (let no : refused.Loop ≡ refused.Miss fid = sym is ∙ miss in cc)
 
   -- where all that an ask looks at was sought, acceptance misses only what can't be fetched
-  pub asked_so : (ask : Asked) → AreSoughtFor offers nodes volume ask → accept s volume ask ≡ Err why → offered offers fid ≡ None
+  pub asked_so : (ask : Asked) → AreSoughtFor offers nodes volume ask → accept s volume ask ≡ Err refusal → offered offers fid ≡ None
   unfolding accept
-  asked_so (Create path mode owner) sought h = creation_so path sought (creation_cause s volume path (ending path) _ why refl h)
-  asked_so (Mkdir path mode owner) sought h = creation_so path sought (creation_cause s volume path (ending path) _ why refl h)
-  asked_so (Symlink path target) sought h = creation_so path sought (creation_cause s volume path (ending path) _ why refl h)
-  asked_so (Store path content) sought h = store_so path sought (store_cause s volume path why content h)
-  asked_so (Setattr path attrs) sought h = way_so offers nodes (root_of volume) path fid why sought (setattr_cause s volume path why attrs h) miss
-  asked_so (Remove path) sought h = remove_so path sought (remove_cause s volume path why (ending path) refl h)
-  asked_so (Rmdir path) sought h = rmdir_so path sought (rmdir_cause s volume path why (ending path) refl h)
-  asked_so (Rename from to) sought h = elim (first_of_rename s volume from to why (ending from) refl h) [
+  asked_so (Create path mode owner) sought h = creation_so path sought (creation_cause s volume path (ending path) _ refusal refl h)
+  asked_so (Mkdir path mode owner) sought h = creation_so path sought (creation_cause s volume path (ending path) _ refusal refl h)
+  asked_so (Symlink path target) sought h = creation_so path sought (creation_cause s volume path (ending path) _ refusal refl h)
+  asked_so (Store path content) sought h = store_so path sought (store_cause s volume path refusal content h)
+  asked_so (Setattr path attrs) sought h = way_so offers nodes (root_of volume) path fid why sought (setattr_cause s volume path refusal attrs h) miss
+  asked_so (Remove path) sought h = remove_so path sought (remove_cause s volume path refusal (ending path) refl h)
+  asked_so (Rmdir path) sought h = rmdir_so path sought (rmdir_cause s volume path refusal (ending path) refl h)
+  asked_so (Rename from to) sought h = elim (first_of_rename s volume from to refusal (ending from) refl h) [
     | inl way ↦ way_so offers nodes (root_of volume) from fid why sought.0 way miss
-    | inr leads_to ↦ rename_so from to sought.0 (sought.1 leads_to.0 leads_to.1) (rename_cause s volume from to why (ending from) refl h)
+    | inr leads_to ↦ rename_so from to sought.0 (sought.1 leads_to.0 leads_to.1) (rename_cause s volume from to refusal (ending from) refl h)
   ]
 
 -- ---- look-ups
@@ -181,7 +189,7 @@ module _ (offers : Option Nodes) (h : Held) (volume : ℕ) where
       subst (λ (x : Held). AreSoughtFor offers x.nodes volume (Rename from to)) (sym (held_after_both h old (look_on (resolve first.nodes (root_of volume) from) (λ fid. look_along offers first (root_of volume) to))))
       (by (resolve first.nodes (root_of volume) from) refl)
     where
-      by : (r : Result Fid Refused) → (let first = held_after_fetches h (look_along offers h (root_of volume) from) in
+      by : (r : Result Fid ClientRefused) → (let first = held_after_fetches h (look_along offers h (root_of volume) from) in
           resolve first.nodes (root_of volume) from ≡ r → AreSoughtFor offers (held_after_fetches first (look_on r (λ fid. look_along offers first (root_of volume) to))).nodes volume (Rename from to))
       by (Err why) e =
           let first = held_after_fetches h (look_along offers h (root_of volume) from) in

@@ -20,12 +20,12 @@ use Rattle.coda_tree.specs.Volume.{Nodes, child, child_of, IsDir, changed, bind_
 use Rattle.coda_tree.proofs.Order.{gone_here, gone_else}
 use Rattle.coda_tree.proofs.Changes.{has_changed, get_changed, bound_else, unbound_here}
 use Rattle.coda_certify.specs.Replay.{MayRemove, made, rename_effects, effects, applied}
-use Rattle.coda_cell.specs.Refused.{Exists, IsDir as IsADirectory, Loop}
-use Rattle.coda_cell.specs.Ask.{Ending, ending}
-use Rattle.coda_cell.specs.Held.{is_below, some_below}
-use Rattle.coda_cell.specs.Looking.{then_find, held, step_from, resolve}
-use Rattle.coda_cell.specs.Accepting.{Sight, new_under, new_place, accept_creation, store_in, store_at, setattr_at, remove_in, remove_at, rmdir_of, rmdir_in, rmdir_at, spot, bound_at, place, replaced_by, move_to, rename_to, rename_root, accept_rename, accept_remove, accept_rmdir}
-use Rattle.coda_cell.proofs.Accepted.{MayMove, Relies, ok_is, found_then, not_at_root, new_under_is, new_fid_is, held_is, step_is, IsSpot, spot_is, root_stays, unless_below}
+use Rattle.coda_venus.specs.declared.refused.Refused.TheVariants.{Exists, IsDir as IsADirectory, Loop}
+use Rattle.coda_venus.specs.Ask.{Ending, ending}
+use Rattle.coda_venus.specs.Held.{is_below, some_below}
+use Rattle.coda_venus.specs.Looking.{then_find, held, step_from, resolve}
+use Rattle.coda_venus.specs.Accepting.{Sight, new_under, new_place, accept_creation, store_in, store_at, setattr_at, remove_in, remove_at, rmdir_of, rmdir_in, rmdir_at, spot, bound_at, place, replaced_by, move_to, rename_to, rename_root, accept_rename, accept_remove, accept_rmdir}
+use Rattle.coda_venus.proofs.Accepted.{MayMove, Relies, ok_is, found_then, not_at_root, new_under_is, new_fid_is, held_is, step_is, IsSpot, spot_is, root_stays, unless_below}
 use Rattle.coda_cell.proofs.AfterOperations.{newly_bound, bound_before, IsBoundBy}
 use Rattle.coda_runs.specs.Performed.{Leads, End, HasNoOther, Stamp, IsVersionOf, IsNew, IsStored, IsSet, IsGone}
 

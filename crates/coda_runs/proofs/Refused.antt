@@ -27,13 +27,17 @@ use Rattle.coda_script.specs.declared.line.Task.{Task}
 use Rattle.coda_script.specs.declared.line.Task.TheVariants as task
 use Rattle.coda_script.specs.declared.reply.Reply.{Reply}
 use Rattle.coda_script.specs.declared.reply.Reply.TheVariants.{Done}
+use Rattle.coda_venus.specs.declared.refused.Refused.{Refused as ClientRefused}
+use Rattle.coda_cell.specs.Refusing.{client_refused_as}
 use Rattle.coda_cell.specs.Refused.{Refused}
 use Rattle.coda_cell.specs.Refused as refused
-use Rattle.coda_cell.specs.Ask.{Asked, Create, Mkdir, Symlink, Store, Setattr, Remove, Rmdir, Rename, ending, too_big, object_of}
+use Rattle.coda_venus.specs.Ask.{Asked, Create, Mkdir, Symlink, Store, Setattr, Remove, Rmdir, Rename, ending, too_big, object_of}
 use Rattle.coda_cell.specs.Asking.{Said, Answer, answers, look_ups, behind_fetches, next_record, has_room, is_full, answer_to, operate_unless, operate, shown_as, shown_at, show_object, read_in, list_in}
 use Rattle.coda_cell.specs.Held.{Fetch}
-use Rattle.coda_cell.specs.Looking.{resolve, look_along, entries_of, is_fetched}
-use Rattle.coda_cell.specs.Accepting.{Accepted, sight_of, accept}
+use Rattle.coda_cell.specs.Looking.{look_along, entries_of, is_fetched}
+use Rattle.coda_venus.specs.Looking.{resolve}
+use Rattle.coda_cell.specs.Accepting.{sight_of}
+use Rattle.coda_venus.specs.Accepting.{Accepted, accept}
 use Rattle.coda_cell.specs.Refusing.{refusal}
 use Rattle.coda_cell.specs.State.{ClientVolume, ClientState, client_after_all, CellState, Event, after_all, at_client}
 use Rattle.coda_cell.specs.Steps.{Unless, first_missing, on_volume, offers_of, reply_to, ByClient, bytes_of, DoesTask}
@@ -52,7 +56,7 @@ use Rattle.coda_runs.proofs.Performed.{leads}
 pub data Outcome (offers : Option Nodes) (c : ClientState) (volume : ℕ) (ask : Asked) (answer : Answer) : Type 0 where
   IsDone : (number : ℕ) (object : Fid) → answer.said ≡ Ok (Done number object) → Outcome offers c volume ask answer
   IsRefused : (why : Refused) → answer.said ≡ Err why → answer.entries ≡ entries_of (look_ups offers c.held volume ask)
-      → ((accept (sight_of (behind_fetches c (look_ups offers c.held volume ask)) volume) volume ask ≡ Err why) ⊎ IsFull (c.volumes volume) why) → Outcome offers c volume ask answer
+      → (((refusal : ClientRefused) × (why ≡ client_refused_as refusal) × (accept (sight_of (behind_fetches c (look_ups offers c.held volume ask)) volume) volume ask ≡ Err refusal)) ⊎ IsFull (c.volumes volume) why) → Outcome offers c volume ask answer
   IsTooBig : (length : ℕ) → answer.said ≡ Err (refused.TooBig length) → answer.entries ≡ [] → too_big ask ≡ Some length → Outcome offers c volume ask answer
 
 -- a log with no room for a record
@@ -83,7 +87,7 @@ module _ (offers : Option Nodes) (c : ClientState) (time volume : ℕ) (ask : As
   entered_comes op rec false b room full = IsRefused refused.LogFull refl refl (inr (LogIsFull refl (log_full v rec room)))
 
   answer_comes : (r : Accepted) → accept (sight_of (behind_fetches c fetches) volume) volume ask ≡ r → Comes (answer_to (entries_of fetches) v time volume r)
-  answer_comes (Err why) is = IsRefused why refl refl (inl is)
+  answer_comes (Err why) is = IsRefused (client_refused_as why) refl refl (inl (why, refl, is))
   answer_comes (Ok op) is = (let rec = next_record v time op in entered_comes op rec (has_room v rec) (is_full v) refl refl)
 
   unless_comes : (o : Option ℕ) → too_big ask ≡ o → Comes (operate_unless o offers c time volume ask)
@@ -121,7 +125,7 @@ module _ (s : CellState) (reply : Reply) (events : List Event) where
   client_behind client c entries there happened =
       ap (λ (q : CellState). q.clients client) (ap (after_all s) happened ∙ after_client s client c entries there) ∙ put_here s.clients client (Some (client_after_all c entries))
 
-  operated : (client volume : ℕ) (ask : Asked) (CauseOf : ClientState → Refused → Type 0) → ((c : ClientState) (why : Refused) → accept (sight_of c volume) volume ask ≡ Err why → CauseOf c why) → ((c : ClientState) (why : Refused) → IsFull (c.volumes volume) why → CauseOf c why)
+  operated : (client volume : ℕ) (ask : Asked) (CauseOf : ClientState → Refused → Type 0) → ((c : ClientState) (why : ClientRefused) → accept (sight_of c volume) volume ask ≡ Err why → CauseOf c (client_refused_as why)) → ((c : ClientState) (why : Refused) → IsFull (c.volumes volume) why → CauseOf c why)
       → ((c : ClientState) (length : ℕ) → too_big ask ≡ Some length → CauseOf c (refused.TooBig length)) → (o : Option Refused) → Unless o (ByClient s client volume (λ offers c. operate offers c s.clock volume ask)) reply events → IsAnsweredBy CauseOf client o behind reply
   operated client volume ask CauseOf accepts fills is_big (Some why) isnt = inl (why, refl, isnt.0)
   operated client volume ask CauseOf accepts fills is_big None did =
@@ -137,7 +141,7 @@ module _ (s : CellState) (reply : Reply) (events : List Event) where
           (
             behind_fetches c fetches,
             client_behind client c answer.entries did.there did.happened ∙ ap Some (ap (client_after_all c) entries ∙ client_after_fetches c fetches),
-            elim cause [ inl isnt ↦ accepts (behind_fetches c fetches) why isnt | inr full ↦ fills (behind_fetches c fetches) why full ],
+            elim cause [ inl isnt ↦ subst (CauseOf (behind_fetches c fetches)) (sym isnt.1) (accepts (behind_fetches c fetches) isnt.0 isnt.2) | inr full ↦ fills (behind_fetches c fetches) why full ],
           ),
         )))
         | IsTooBig length said entries big ↦ inr (inr (inr (
@@ -172,8 +176,8 @@ module _ (s : CellState) (reply : Reply) (events : List Event) where
         | inr isnt ↦ inr (inr (inr (isnt.0, answered ∙ ap reply_to isnt.1, (new, there, isnt.2))))
       ]
 
-      by : (new : ClientState) → behind client ≡ Some new → (fetched : List Fetch) (r : Result Fid Refused) → resolve new.held.nodes (root_of volume) path ≡ r → reply ≡ reply_to (shown_at show fetched new.held.nodes r) → IsAnsweredBy CauseOf client None behind reply
-      by new there fetched (Err why) leads_to answered = inr (inr (inr (why, answered, (new, there, ways new why (way_cause new.held.nodes (root_of volume) path why leads_to)))))
+      by : (new : ClientState) → behind client ≡ Some new → (fetched : List Fetch) (r : Result Fid ClientRefused) → resolve new.held.nodes (root_of volume) path ≡ r → reply ≡ reply_to (shown_at show fetched new.held.nodes r) → IsAnsweredBy CauseOf client None behind reply
+      by new there fetched (Err why) leads_to answered = inr (inr (inr (client_refused_as why, answered, (new, there, ways new (client_refused_as why) (way_cause new.held.nodes (root_of volume) path why leads_to)))))
       by new there fetched (Ok fid) leads_to answered = by_node new there (is_fetched fetched fid) fid leads_to (map.get new.held.nodes fid) refl answered
 
   read_shows : (volume : ℕ) (path : List Name) (c : ClientState) (fetched : Bool) (fid : Fid) (node : Node) → resolve c.held.nodes (root_of volume) path ≡ Ok fid → map.get c.held.nodes fid ≡ Some node
@@ -208,42 +212,42 @@ module _ (s : CellState) (reply : Reply) (events : List Event) where
   never_big : (length : ℕ) {A : Type 0} → (let o : Option ℕ = None in o ≡ Some length) → A
   never_big length e = cc
 
-  created : (client volume : ℕ) (ask : Asked) (path : List Name) → too_big ask ≡ None → ((c : ClientState) (why : Refused) → accept (sight_of c volume) volume ask ≡ Err why → CreationCause (sight_of c volume) volume path why)
+  created : (client volume : ℕ) (ask : Asked) (path : List Name) → too_big ask ≡ None → ((c : ClientState) (why : ClientRefused) → accept (sight_of c volume) volume ask ≡ Err why → CreationCause (sight_of c volume) volume path (client_refused_as why))
       → Unless (first_missing (on_volume s client volume)) (ByClient s client volume (λ offers c. operate offers c s.clock volume ask)) reply events
       → IsAnsweredBy (λ c why. CreationCause (sight_of c volume) volume path why ⊎ IsFull (c.volumes volume) why) client (first_missing (on_volume s client volume)) behind reply
   created client volume ask path short cause does =
       operated client volume ask (λ c why. CreationCause (sight_of c volume) volume path why ⊎ IsFull (c.volumes volume) why) (λ c why h. inl (cause c why h)) (λ c why full. inr full)
       (λ c length big. never_big length (sym short ∙ big)) (first_missing (on_volume s client volume)) does
 
-  create_cause : (c : ClientState) (volume : ℕ) (path : List Name) (mode owner : ℕ) (why : Refused) → accept (sight_of c volume) volume (Create path mode owner) ≡ Err why → CreationCause (sight_of c volume) volume path why
+  create_cause : (c : ClientState) (volume : ℕ) (path : List Name) (mode owner : ℕ) (why : ClientRefused) → accept (sight_of c volume) volume (Create path mode owner) ≡ Err why → CreationCause (sight_of c volume) volume path (client_refused_as why)
   unfolding accept
   create_cause c volume path mode owner why h = creation_cause (sight_of c volume) volume path (ending path) (λ dir name fid. CreateOp dir name fid mode owner) why refl h
 
-  mkdir_cause : (c : ClientState) (volume : ℕ) (path : List Name) (mode owner : ℕ) (why : Refused) → accept (sight_of c volume) volume (Mkdir path mode owner) ≡ Err why → CreationCause (sight_of c volume) volume path why
+  mkdir_cause : (c : ClientState) (volume : ℕ) (path : List Name) (mode owner : ℕ) (why : ClientRefused) → accept (sight_of c volume) volume (Mkdir path mode owner) ≡ Err why → CreationCause (sight_of c volume) volume path (client_refused_as why)
   unfolding accept
   mkdir_cause c volume path mode owner why h = creation_cause (sight_of c volume) volume path (ending path) (λ dir name fid. MkdirOp dir name fid mode owner) why refl h
 
-  symlink_cause : (c : ClientState) (volume : ℕ) (path : List Name) (target : List ℕ) (why : Refused) → accept (sight_of c volume) volume (Symlink path target) ≡ Err why → CreationCause (sight_of c volume) volume path why
+  symlink_cause : (c : ClientState) (volume : ℕ) (path : List Name) (target : List ℕ) (why : ClientRefused) → accept (sight_of c volume) volume (Symlink path target) ≡ Err why → CreationCause (sight_of c volume) volume path (client_refused_as why)
   unfolding accept
   symlink_cause c volume path target why h = creation_cause (sight_of c volume) volume path (ending path) (λ dir name fid. SymlinkOp dir name fid target 511 0) why refl h
 
-  stores_cause : (c : ClientState) (volume : ℕ) (path : List Name) (content : List ℕ) (why : Refused) → accept (sight_of c volume) volume (Store path content) ≡ Err why → StoreCause (sight_of c volume) volume path why
+  stores_cause : (c : ClientState) (volume : ℕ) (path : List Name) (content : List ℕ) (why : ClientRefused) → accept (sight_of c volume) volume (Store path content) ≡ Err why → StoreCause (sight_of c volume) volume path (client_refused_as why)
   unfolding accept
   stores_cause c volume path content why h = store_cause (sight_of c volume) volume path why content h
 
-  sets_cause : (c : ClientState) (volume : ℕ) (path : List Name) (attrs : Attrs) (why : Refused) → accept (sight_of c volume) volume (Setattr path attrs) ≡ Err why → OnTheWay c.held.nodes (root_of volume) path why
+  sets_cause : (c : ClientState) (volume : ℕ) (path : List Name) (attrs : Attrs) (why : ClientRefused) → accept (sight_of c volume) volume (Setattr path attrs) ≡ Err why → OnTheWay c.held.nodes (root_of volume) path (client_refused_as why)
   unfolding accept
   sets_cause c volume path attrs why h = setattr_cause (sight_of c volume) volume path why attrs h
 
-  removes_cause : (c : ClientState) (volume : ℕ) (path : List Name) (why : Refused) → accept (sight_of c volume) volume (Remove path) ≡ Err why → RemoveCause (sight_of c volume) volume path why
+  removes_cause : (c : ClientState) (volume : ℕ) (path : List Name) (why : ClientRefused) → accept (sight_of c volume) volume (Remove path) ≡ Err why → RemoveCause (sight_of c volume) volume path (client_refused_as why)
   unfolding accept
   removes_cause c volume path why h = remove_cause (sight_of c volume) volume path why (ending path) refl h
 
-  rmdirs_cause : (c : ClientState) (volume : ℕ) (path : List Name) (why : Refused) → accept (sight_of c volume) volume (Rmdir path) ≡ Err why → RmdirCause (sight_of c volume) volume path why
+  rmdirs_cause : (c : ClientState) (volume : ℕ) (path : List Name) (why : ClientRefused) → accept (sight_of c volume) volume (Rmdir path) ≡ Err why → RmdirCause (sight_of c volume) volume path (client_refused_as why)
   unfolding accept
   rmdirs_cause c volume path why h = rmdir_cause (sight_of c volume) volume path why (ending path) refl h
 
-  renames_cause : (c : ClientState) (volume : ℕ) (from to : List Name) (why : Refused) → accept (sight_of c volume) volume (Rename from to) ≡ Err why → RenameCause (sight_of c volume) volume from to why
+  renames_cause : (c : ClientState) (volume : ℕ) (from to : List Name) (why : ClientRefused) → accept (sight_of c volume) volume (Rename from to) ≡ Err why → RenameCause (sight_of c volume) volume from to (client_refused_as why)
   unfolding accept
   renames_cause c volume from to why h = rename_cause (sight_of c volume) volume from to why (ending from) refl h
 

@@ -14,7 +14,8 @@ use Rattle.coda_script.specs.declared.line.Line.TheVariants as line
 use Rattle.coda_script.specs.declared.line.Task.{Task}
 use Rattle.coda_script.specs.declared.line.Strength.{Strength}
 use Rattle.coda_script.specs.declared.line.Strength.TheVariants.{Strong, Weak, Down}
-use Rattle.coda_cell.specs.Held.{Held, held_after_fetch, held_after_fetches, Fetch}
+use Rattle.coda_cell.specs.Held.{held_after_fetches, Fetch}
+use Rattle.coda_venus.specs.Held.{Held, held_after_fetch}
 use Rattle.coda_cell.specs.Looking.{offered, fetch_of, looked}
 use Rattle.coda_cell.specs.State.{put, ReplicaState, CellState}
 use Rattle.coda_cell.specs.Steps.{reached, offers_of}

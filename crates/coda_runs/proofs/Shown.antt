@@ -20,13 +20,17 @@ use Rattle.coda_script.specs.declared.line.Task.{Task}
 use Rattle.coda_script.specs.declared.line.Task.TheVariants as task
 use Rattle.coda_script.specs.declared.reply.Reply.{Reply}
 use Rattle.coda_script.specs.declared.reply.Reply.TheVariants.{Done}
+use Rattle.coda_venus.specs.declared.refused.Refused.{Refused as ClientRefused}
+use Rattle.coda_cell.specs.Refusing.{client_refused_as}
 use Rattle.coda_cell.specs.Refused.{Refused}
 use Rattle.coda_cell.specs.Refused as refused
-use Rattle.coda_cell.specs.Ask.{Asked, too_big, object_of}
+use Rattle.coda_venus.specs.Ask.{Asked, too_big, object_of}
 use Rattle.coda_cell.specs.Asking.{Said, read_in, list_in, shown_as, shown_at, show_object, look_ups, behind_fetches, answers, next_record, has_room, is_full, answer_to, operate_unless, operate}
 use Rattle.coda_cell.specs.Held.{held_after_fetches, Fetch}
-use Rattle.coda_cell.specs.Looking.{resolve, look_along, entries_of, is_fetched}
-use Rattle.coda_cell.specs.Accepting.{Accepted, sight_of, accept}
+use Rattle.coda_cell.specs.Looking.{look_along, entries_of, is_fetched}
+use Rattle.coda_venus.specs.Looking.{resolve}
+use Rattle.coda_cell.specs.Accepting.{sight_of}
+use Rattle.coda_venus.specs.Accepting.{Accepted, accept}
 use Rattle.coda_cell.specs.State.{ClientVolume, ClientState, client_after_all, ReplicaState, CellState, Event, after_all}
 use Rattle.coda_cell.specs.Sending.{Freezing, freezing, Ruling, ruling, Taking, taking, answered_to, ruled_on, drained_of, drain}
 use Rattle.coda_cell.specs.Steps.{Doing, Unless, first_missing, on_volume, on_holder, offers_of, reply_to, ByClient, ByBoth, Operates, DoesTask, Does}
@@ -48,7 +52,7 @@ IsShownBy kind said = shown_by (reply_to said) ≡ Some kind
 -- ---- what an answer shows
 
 -- where an answer shows something, its path leads there
-pub record IsOf (nodes : Nodes) (r : Result Fid Refused) (kind : NodeKind) : Type 0 where
+pub record IsOf (nodes : Nodes) (r : Result Fid ClientRefused) (kind : NodeKind) : Type 0 where
   pub object : Fid
   pub found : r ≡ Ok object
   pub node : Node
@@ -68,9 +72,9 @@ of_listed fetched (Dir entries) kind is = (let same : Dir entries ≡ kind = cc 
 nothing_shown : (why : Refused) (kind : NodeKind) → IsShownBy kind (Err why) → ⊥
 nothing_shown why kind is = cc
 
-of_shown : (show : Bool → NodeKind → Said) → ((fetched : Bool) (was kind : NodeKind) → IsShownBy kind (show fetched was) → was ≡ kind) → (fetches : List Fetch) (nodes : Nodes) (r : Result Fid Refused) (kind : NodeKind)
+of_shown : (show : Bool → NodeKind → Said) → ((fetched : Bool) (was kind : NodeKind) → IsShownBy kind (show fetched was) → was ≡ kind) → (fetches : List Fetch) (nodes : Nodes) (r : Result Fid ClientRefused) (kind : NodeKind)
     → IsShownBy kind (shown_at show fetches nodes r) → IsOf nodes r kind
-of_shown show of fetches nodes (Err why) kind is = absurd (nothing_shown why kind is)
+of_shown show of fetches nodes (Err why) kind is = absurd (nothing_shown (client_refused_as why) kind is)
 of_shown show of fetches nodes (Ok fid) kind is = by (map.get nodes fid) refl is
   where
     by : (o : Option Node) → map.get nodes fid ≡ o → IsShownBy kind (shown_as show (is_fetched fetches fid) o fid) → IsOf nodes (Ok fid) kind
@@ -124,7 +128,7 @@ module _ (s : CellState) (Reaches : ℕ → ℕ → ℕ → Type 0) (reply : Rep
   not_entered entries v volume op rec false full h = cc
 
   not_accepted : (entries : List ClientEntry) (v : ClientVolume) (time volume : ℕ) (r : Accepted) → Never (answer_to entries v time volume r).said
-  not_accepted entries v time volume (Err why) h = nothing_shown why kind h
+  not_accepted entries v time volume (Err why) h = nothing_shown (client_refused_as why) kind h
   not_accepted entries v time volume (Ok op) h = not_entered entries v volume op (next_record v time op) (has_room v (next_record v time op)) (is_full v) h
 
   not_unless : (o : Option ℕ) (offers : Option Nodes) (c : ClientState) (time volume : ℕ) (ask : Asked) → Never (operate_unless o offers c time volume ask).said

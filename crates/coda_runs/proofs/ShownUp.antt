@@ -24,8 +24,9 @@ use Rattle.coda_script.specs.declared.line.Line.{Line}
 use Rattle.coda_script.specs.declared.line.Line.TheVariants as line
 use Rattle.coda_script.specs.declared.reply.Reply.{Reply}
 use Rattle.coda_script.specs.declared.reply.Reply.TheVariants.{Opened, Accepted, Done, Broken, Lost, ShowVolume, ShowLog, State}
-use Rattle.coda_cell.specs.Accepting.{Accepted as OpAccepted, sight_of, accept}
-use Rattle.coda_cell.specs.Ask.{Asked, too_big, object_of}
+use Rattle.coda_cell.specs.Accepting.{sight_of}
+use Rattle.coda_venus.specs.Accepting.{Accepted as OpAccepted, accept}
+use Rattle.coda_venus.specs.Ask.{Asked, too_big, object_of}
 use Rattle.coda_cell.specs.Asking.{Said, answers as answers_with, look_ups, behind_fetches, next_record, has_room, is_full, answer_to, operate_unless, operate, read, list, shown_at, shown_as, read_in, list_in}
 use Rattle.coda_cell.specs.Held.{Fetch}
 use Rattle.coda_cell.specs.Looking.{entries_of, is_fetched}
@@ -35,6 +36,7 @@ use Rattle.coda_cell.specs.Sending.{Freezing, freezing, Ruling, ruling, Taking, 
 use Rattle.coda_cell.specs.State.{ClientVolume, ClientState, ReplicaState, CellState, Event, log_of}
 use Rattle.coda_cell.specs.Steps.{Doing, Unless, Says, Named, first_missing, on_volume, on_holder, client_named, volume_named, server_named, holder_named, no_volume, no_client, offers_of, reply_to, ByClient, ByBoth, BySend, ByRuling, ByTaking, valid_copies, Comes, link_down, Delivers, Loses, DoesTask, Does, ShowsState}
 use Rattle.coda_cell.specs.States.{state_over}
+use Rattle.coda_venus.specs.declared.refused.Refused.{Refused as ClientRefused}
 use Rattle.coda_cell.specs.Refused.{Refused}
 use Rattle.coda_cell.specs.Refused as refused
 use Rattle.coda_shelves.specs.Cells.{Cell, state_of}
@@ -80,7 +82,7 @@ listed_whole fetched (Link target) = tt
 listed_whole fetched (Dir entries) = tt
 
 found_whole : (show : Bool → NodeKind → Said) → ((fetched : Bool) (kind : NodeKind) → IsSaid (show fetched kind))
-    → (fetches : List Fetch) (nodes : Nodes) (r : Result Fid Refused) → IsSaid (shown_at show fetches nodes r)
+    → (fetches : List Fetch) (nodes : Nodes) (r : Result Fid ClientRefused) → IsSaid (shown_at show fetches nodes r)
 found_whole show whole fetches nodes (Err why) = tt
 found_whole show whole fetches nodes (Ok fid) = by (map.get nodes fid)
   where

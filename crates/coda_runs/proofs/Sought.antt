@@ -9,9 +9,11 @@ use Rattle.coda_tree.specs.declared.node.Node.{Node}
 use Rattle.coda_tree.specs.Bindings.{Name}
 use Rattle.coda_tree.specs.Volume.{Nodes, parent_of}
 use Rattle.coda_tree.proofs.Order.{get_here}
-use Rattle.coda_cell.specs.Held.{Held, held_after_fetches}
-use Rattle.coda_cell.specs.Looking.{step_from, offered, fetch_of, look, looked, look_on, look_along}
-use Rattle.coda_cell.specs.Refused.{Refused}
+use Rattle.coda_cell.specs.Held.{held_after_fetches}
+use Rattle.coda_venus.specs.Held.{Held}
+use Rattle.coda_cell.specs.Looking.{offered, fetch_of, look, looked, look_on, look_along}
+use Rattle.coda_venus.specs.Looking.{step_from}
+use Rattle.coda_venus.specs.declared.refused.Refused.{Refused}
 use Rattle.coda_cell.proofs.Fetches.{held_after_both}
 use Rattle.coda_cell.proofs.Offered.{fetched_along_is_offered}
 use Rattle.coda_runs.proofs.Served.{keeps_look, held_or_fetched}

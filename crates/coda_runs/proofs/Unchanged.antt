@@ -19,9 +19,9 @@ use Rattle.coda_tree.proofs.Changes.{at_changed, off_changed, has_changed, dir_n
 use Rattle.coda_certify.specs.Replay.{empty_file, empty_dir, new_link, rename_effects, effects, sid_of, applied}
 use Rattle.coda_cancel.proofs.Keys.{fid_other}
 use Rattle.coda_cml.specs.Steady.{unbinds}
-use Rattle.coda_cell.specs.Ask.{object_of}
-use Rattle.coda_cell.specs.Accepting.{Sight}
-use Rattle.coda_cell.proofs.Accepted.{MayMove, Relies}
+use Rattle.coda_venus.specs.Ask.{object_of}
+use Rattle.coda_venus.specs.Accepting.{Sight}
+use Rattle.coda_venus.proofs.Accepted.{MayMove, Relies}
 use Rattle.coda_cell.proofs.AfterOperations.{still_bound, newly_bound, bound_before, IsBoundBy}
 use Rattle.coda_runs.specs.Performed.{IsAsItWas, IsReplaced, OthersStay}
 use Rattle.coda_runs.proofs.Performed.{binds_apart, over_gone}

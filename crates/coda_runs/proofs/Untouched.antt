@@ -18,7 +18,7 @@ use Rattle.coda_script.specs.declared.reply.Reply.{Reply}
 use Rattle.coda_script.specs.declared.reply.Reply.TheVariants.{Accepted}
 use Rattle.coda_script.specs.declared.line.Strength.TheVariants.{Down as LinkIsDown}
 use Rattle.coda_tree.specs.Volume.{Nodes}
-use Rattle.coda_cell.specs.Ask.{Asked, Create, Mkdir, Symlink, Store, Setattr, Remove, Rmdir, Rename}
+use Rattle.coda_venus.specs.Ask.{Asked, Create, Mkdir, Symlink, Store, Setattr, Remove, Rmdir, Rename}
 use Rattle.coda_cell.specs.Asking.{Answer, operate, read, list}
 use Rattle.coda_cell.specs.Refused.{Refused}
 use Rattle.coda_cell.specs.State.{put, ClientState, ReplicaState, CellState, Event, VolumeMade, ClientMade, Ticked, LinkSet, Entered, Posted, Lost, Used, Kept, Stale, at_client}

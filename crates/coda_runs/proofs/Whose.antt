@@ -27,8 +27,9 @@ use Rattle.coda_cell.specs.Steps.{Doing, Unless, first_missing, client_named, vo
 use Rattle.coda_cell.proofs.Events.{all_there, are_there}
 use Rattle.coda_runs.proofs.Unlettered.{is_acting}
 use Rattle.coda_plain.specs.Deeds.{Deed, Operated}
-use Rattle.coda_cell.specs.Accepting.{Accepted, sight_of, accept}
-use Rattle.coda_cell.specs.Ask.{Asked, Create, Mkdir, Symlink, Store, Setattr, Remove, Rmdir, Rename, too_big}
+use Rattle.coda_cell.specs.Accepting.{sight_of}
+use Rattle.coda_venus.specs.Accepting.{Accepted, accept}
+use Rattle.coda_venus.specs.Ask.{Asked, Create, Mkdir, Symlink, Store, Setattr, Remove, Rmdir, Rename, too_big}
 use Rattle.coda_cell.specs.Held.{Fetch}
 use Rattle.coda_cell.specs.Looking.{entries_of}
 

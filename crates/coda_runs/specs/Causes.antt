@@ -16,8 +16,9 @@ use Rattle.coda_script.specs.declared.line.Task.{Task}
 use Rattle.coda_script.specs.declared.line.Task.TheVariants as task
 use Rattle.coda_script.specs.declared.reply.Reply.{Reply}
 use Rattle.coda_script.specs.declared.reply.Reply.TheVariants.{Done}
-use Rattle.coda_cell.specs.Accepting.{Sight, sight_of, next_fid}
-use Rattle.coda_cell.specs.Held.{is_below, some_below}
+use Rattle.coda_cell.specs.Accepting.{sight_of}
+use Rattle.coda_venus.specs.Accepting.{Sight, next_fid}
+use Rattle.coda_venus.specs.Held.{is_below, some_below}
 use Rattle.coda_cell.specs.State.{ClientVolume, ClientState, Event, ReplicaState}
 use Rattle.coda_cell.specs.Refusing.{refusal}
 use Rattle.coda_cell.specs.Steps.{first_missing, on_volume, Does}

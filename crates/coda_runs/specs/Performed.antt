@@ -19,7 +19,7 @@ use Rattle.coda_script.specs.declared.line.Line.TheVariants as line
 use Rattle.coda_script.specs.declared.line.Task.{Task}
 use Rattle.coda_script.specs.declared.line.Task.TheVariants as task
 use Rattle.coda_script.specs.declared.reply.Reply.TheVariants.{Done}
-use Rattle.coda_cell.specs.Held.{Parents, held_after_operation}
+use Rattle.coda_venus.specs.Held.{Parents, held_after_operation}
 use Rattle.coda_cell.specs.State.{pending, ClientState, ReplicaState}
 use Rattle.coda_shelves.specs.Cells.{Cell, state_of}
 use Rattle.coda_shelves.specs.Lines.{is_cut, replica_down, Happens}
@@ -202,7 +202,10 @@ pub record IsPerformed (Reached : ℕ → Type 0) (replicas : ℕ → Option Rep
   pub time_is : rec.time ≡ time
   pub next : number ≡ (old.volumes volume).operations + 1
   pub replays : after ≡ applied before old.number rec
+  -- by these parents it held what went along: each object that it held before keeps its own, and each other parent binds its object
   pub parents : Parents
+  pub own : (fid : Fid) → has old.held.nodes fid ≡ true → map.get parents fid ≡ map.get old.held.parents fid
+  pub found : (fid p : Fid) → map.get parents fid ≡ Some p → (map.get old.held.parents fid ≡ Some p) ⊎ ((name : Name) × (child before p name ≡ Some fid))
   pub holds : new.held ≡ held_after_operation (record { nodes = before; parents = parents }) old.number rec
 
 -- the client and the volume are those of a line that is answered as done; other clients are as they were
