@@ -9,10 +9,11 @@ MOST_VOLUMES, MOST_AREAS = 64, 512
 
 
 class Client:
-    """What a client holds, with the directory in which each object was found or put, and its logs by volume."""
+    """What a client holds, with the directory in which each object was found or put, and its logs by volume. Its cache
+    has a size in blocks, which says nothing here."""
 
-    def __init__(self, number):
-        self.number, self.nodes, self.parents, self.logs = number, {}, {}, {}
+    def __init__(self, number, size):
+        self.number, self.size, self.nodes, self.parents, self.logs = number, size, {}, {}, {}
 
     def log(self, volume):
         return self.logs.setdefault(volume, Log())
@@ -34,15 +35,45 @@ class Client:
     def is_dirty(self, fid):
         return any(fid in mentioned(operation) for log in self.logs.values() for _, _, operation in log.records())
 
+    # ---- what is held is served, and never goes for want of room; oracle_cache.py has another rule
+
+    def is_served(self, fid, _):
+        return fid in self.nodes
+
+    def use(self, fid):
+        pass
+
+    def came_from_server(self, fid):
+        pass
+
+    def cut_off(self, volume):
+        pass
+
+    def room_for(self, *_):
+        return ()
+
+    def room_after(self, *_):
+        return ()
+
     # ---- its entries
 
-    def fetched(self, fid, parent, node):
+    def fetched(self, fid, parent, node, gone=()):
+        self.drop(gone)
         self.nodes[fid], self.parents[fid] = node.copy(), parent
 
-    def done(self, volume, record):
-        """An operation is in the log, and changes what is held. What goes takes all that is held below it along."""
-        number, time, operation = record
+    def drop(self, fids):
+        for fid in fids:
+            del self.nodes[fid], self.parents[fid]
+
+    def done(self, volume, record, gone=()):
+        """An operation is in the log, and changes what is held."""
+        self.drop(gone)
         self.log(volume).append(record)
+        self.change(record)
+
+    def change(self, record):
+        """What is held changes by an operation. What goes takes all that is held below it along."""
+        number, time, operation = record
         kind = operation[0]
         if kind in ("remove", "rmdir"):
             for fid in self.below(operation[3]) if kind == "rmdir" else []:
@@ -89,14 +120,15 @@ class Letters:
 class Actors:
     """The clients and replicas of a cell, by their numbers, with the server of each volume, on the disks of a bay."""
 
-    def __init__(self, disks):
+    def __init__(self, disks, new_client):
         self.disks, self.clients, self.replicas, self.servers, self.areas = disks, {}, {}, {}, 0
+        self.new_client = new_client
 
     def make_client(self, number, cache, area):
         if number in self.clients:
             raise Refused("already-there")
         asked = header(CLIENT, number, 0, 0, area, cache)
-        return self.make(self.clients, number, number, asked, area, lambda: Client(number))
+        return self.make(self.clients, number, number, asked, area, lambda: self.new_client(number, cache))
 
     def make_volume(self, number, server, area):
         if number in self.replicas:

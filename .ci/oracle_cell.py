@@ -1,6 +1,7 @@
 """The cell: what each line of a script does, and its reply."""
 
-from oracle_actors import Actors, Letters
+from oracle_actors import Actors, Client, Letters
+from oracle_cache import CachingClient
 from oracle_disk import decided_length, done_length, fetched_length, frozen_length, settled_length
 from oracle_log import chunk_length
 from oracle_texts import Refused, content_text, fid_text, printed, words_of
@@ -20,18 +21,28 @@ def next_state(state, link, log_is_empty):
     return state
 
 
-class Cell:
-    """All actors of a script, over a bay of disks, which are files or in memory."""
+class Needed(Exception):
+    """A line looks up an object that isn't served."""
 
-    def __init__(self, in_files, disks=None):
-        self.actors, self.letters, self.in_files = Actors({} if disks is None else disks), Letters(), in_files
-        self.clock, self.links, self.states, self.fetched = 0, {}, {}, set()
+    def __init__(self, fid):
+        super().__init__(fid)
+        self.fid = fid
+
+
+class Cell:
+    """All actors of a script, over a bay of disks, which are files or in memory. What clients hold goes by their own
+    operations alone, or it is in caches."""
+
+    def __init__(self, in_files, disks=None, caches=False):
+        self.actors = Actors({} if disks is None else disks, CachingClient if caches else Client)
+        self.letters, self.in_files, self.caches = Letters(), in_files, caches
+        self.clock, self.links, self.states, self.fetched, self.looked_up = 0, {}, {}, set(), set()
 
     def next_run(self):
         """The cell of the next run over the same disks."""
         for disk in self.actors.disks.values():
             disk.reopen()
-        return Cell(self.in_files, self.actors.disks)
+        return Cell(self.in_files, self.actors.disks, self.caches)
 
     def run(self, line):
         """The text of a line's reply."""
@@ -60,7 +71,7 @@ class Cell:
             return self.client_at(int(words[2]), int(words[3])).log(int(words[3])).text()
         if kind == "show" and words[1] == b"state":
             self.client_at(int(words[2]), int(words[3]))
-            return self.states.get((int(words[2]), int(words[3])), "emulating")
+            return self.state(int(words[2]), int(words[3]))
         if kind == "show":
             server, volume = int(words[2]), int(words[3])
             return "\n".join(shown(volume, server, self.actors.replica(server, volume).up().nodes))
@@ -82,11 +93,10 @@ class Cell:
         if kind == "drain":
             return self.drain(client, volume, int(words[3]), option(words, b"window", 600))
         self.client_at(client, volume)
-        if kind == "read":
-            return self.read(client, volume, words[3])
-        if kind == "list":
-            return self.list(client, volume, words[3])
-        return self.operate(client, volume, kind, words[3:])
+        if kind in ("read", "list"):
+            call = self.read if kind == "read" else self.list
+            return self.in_rounds(client, volume, lambda: call(client, volume, words[3]))
+        return self.in_rounds(client, volume, lambda: self.operate(client, volume, kind, words[3:]))
 
     def link(self, client, server, strength):
         actor = self.actors.client(client)
@@ -108,6 +118,11 @@ class Cell:
                     for _ in range(2):
                         state = next_state(state, link, log.is_empty())
                     self.states[client, volume] = state
+                    if link == "down":
+                        actor.has.cut_off(volume)
+
+    def state(self, client, volume):
+        return self.states.get((client, volume), "emulating")
 
     def strength(self, client, server):
         return self.links.get((client, server), "down")
@@ -127,6 +142,7 @@ class Cell:
             actor.disk.passes = number
             return "ok"
         if kind == "recover":
+            self.cut_off_from(actor)
             return f"recovered {actor.mount()}"
         actor.has = None
         if self.in_files:
@@ -134,6 +150,13 @@ class Cell:
         else:
             actor.disk.crash(number)
         return "crashed"
+
+    def cut_off_from(self, actor):
+        """A replica was down: no copy that it gave is valid."""
+        for volume, replica in self.actors.replicas.items():
+            for client in self.actors.clients.values() if replica is actor else ():
+                if client.has is not None:
+                    client.has.cut_off(volume)
 
     # ---- chunks and their answers
 
@@ -205,16 +228,34 @@ class Cell:
 
     # ---- what a client holds
 
-    def look(self, client, volume, fid):
-        """An object that a client looks at: its own copy, which it fetches where it has none."""
+    def in_rounds(self, client, volume, call):
+        """What a call answers, which is made anew with each object that it needs and that could be fetched."""
+        while True:
+            self.looked_up = set()
+            try:
+                return call()
+            except Needed as needed:
+                self.fetch(client, volume, needed.fid)
+
+    def fetch(self, client, volume, fid):
         actor, replica = self.actors.clients[client], self.actors.replicas[volume].has
-        if fid not in actor.has.nodes:
-            if self.strength(client, self.actors.servers[volume]) == "down" or replica is None or fid not in replica.nodes:
-                raise Refused("miss", fid_text(fid))
-            parent, node = actor.has.likely_parent(fid), replica.nodes[fid].copy()
-            actor.append(("fetched", fid, parent, node), fetched_length(parent, node))
-            self.fetched.add(fid)
-        return actor.has.nodes[fid]
+        is_cut_off = self.strength(client, self.actors.servers[volume]) == "down" or replica is None
+        if is_cut_off or fid not in replica.nodes:
+            raise Refused("miss", fid_text(fid))
+        parent, node = actor.has.likely_parent(fid), replica.nodes[fid].copy()
+        gone = actor.has.room_for(fid, parent, node, self.fetched)
+        actor.append(("fetched", fid, parent, node, gone), fetched_length(parent, node, gone))
+        actor.has.came_from_server(fid)
+        self.fetched.add(fid)
+
+    def look(self, client, volume, fid):
+        """An object that a client looks at: its own copy, where that is served."""
+        holder = self.actors.clients[client].has
+        self.looked_up.add(fid)
+        holder.use(fid)
+        if not holder.is_served(fid, self.state(client, volume) == "emulating"):
+            raise Needed(fid)
+        return holder.nodes[fid]
 
     def walk(self, client, volume, names):
         """The objects on the way along names from the root, the last one looked at too."""
@@ -265,7 +306,11 @@ class Cell:
         record = (log.operations + 1, self.clock, operation)
         if not log.has_room(record):
             raise Refused("log-full")
-        self.actors.clients[client].append(("done", volume, record), done_length(operation))
+        actor = self.actors.clients[client]
+        gone = actor.has.room_after(volume, record, self.looked_up)
+        actor.append(("done", volume, record, gone), done_length(operation, gone))
+        if kind in KIND_MADE:
+            actor.has.use(fid)
         return f"done {log.operations} {fid_text(fid)}"
 
     def parent(self, client, volume, names):
@@ -337,12 +382,12 @@ def runs_of(script):
     return script.split(b"# again\n")
 
 
-def reports_of(script, in_files):
-    cell = Cell(in_files)
+def reports_of(script, in_files, caches=False):
+    cell = Cell(in_files, caches=caches)
     for run in runs_of(script):
         yield "".join(cell.run(line.removesuffix(b"\r")) for line in run.split(b"\n")).encode("ascii")
         cell = cell.next_run()
 
 
-def report_of(script, in_files=False):
-    return b"# again\n".join(reports_of(script, in_files))
+def report_of(script, in_files=False, caches=False):
+    return b"# again\n".join(reports_of(script, in_files, caches))

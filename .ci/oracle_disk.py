@@ -118,12 +118,17 @@ def node_length(node):
     return 1 + 1 + 2 + 4 + 8 + SID + body
 
 
-def fetched_length(parent, node):
-    return LISTED + FID + 1 + (FID if parent else 0) + node_length(node)
+def gone_length(gone):
+    """Behind the list's count, an entry for each object that goes: its tag and the fid."""
+    return len(gone) * (1 + FID)
 
 
-def done_length(operation):
-    return LISTED + OF_VOLUME + 8 + 8 + operation_length(operation)
+def fetched_length(parent, node, gone):
+    return LISTED + gone_length(gone) + FID + 1 + (FID if parent else 0) + node_length(node)
+
+
+def done_length(operation, gone):
+    return LISTED + gone_length(gone) + OF_VOLUME + 8 + 8 + operation_length(operation)
 
 
 def frozen_length():

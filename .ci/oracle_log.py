@@ -124,6 +124,11 @@ class Run:
         for record in pending:
             self.take(record, *add(self.records, record))
 
+    def copy(self):
+        other = Run()
+        other.pending, other.records, other.drops = list(self.pending), list(self.records), list(self.drops)
+        return other
+
     def take(self, record, records, dropped):
         self.pending.append(record)
         self.records = records
@@ -176,6 +181,12 @@ class Log:
     def __init__(self):
         self.operations, self.creations, self.chunks = 0, 0, 0
         self.front, self.home, self.rest = None, None, Run()
+
+    def copy(self):
+        other = Log()
+        other.operations, other.creations, other.chunks = self.operations, self.creations, self.chunks
+        other.front, other.home, other.rest = self.front and self.front.copy(), self.home, self.rest.copy()
+        return other
 
     def records(self):
         return (self.front.records if self.front else []) + self.rest.records

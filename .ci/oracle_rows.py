@@ -1,4 +1,5 @@
-"""The worked rows of crates/coda_rows: what a second reading of the rules says of their scripts and lines."""
+"""The worked rows of crates/coda_rows: what a second reading of the rules says of their scripts and lines. And worked
+scripts under the rule of caches."""
 
 import glob
 import itertools
@@ -101,4 +102,17 @@ def compare_rows(crate):
         print(f"{os.path.basename(path)}: the report, or what is wrong, is another", file=sys.stderr)
     if not other:
         print(f"{len(read)} worked scripts of {len(scripts)}, {len(lines)} files of lines: as a second reading of the rules says")
+    return not other
+
+
+def compare_caches(place):
+    """Whether each worked script of a folder, written as the rows are, has its report under the rule of caches, in memory
+    and on files."""
+    rows = {path: read_row(path) for path in sorted(glob.glob(os.path.join(place, "*.coda")))}
+    other = [path for path, row in rows.items() for in_files in (False, True)
+             if report_of(row, in_files, caches=True) != read_row(path.removesuffix("coda") + "out")]
+    for path in other:
+        print(f"{os.path.basename(path)}: the report is another", file=sys.stderr)
+    if not other:
+        print(f"{len(rows)} worked scripts of caches: as a second reading of the rules says")
     return not other

@@ -3,9 +3,10 @@
 import re
 
 NUMBERS = {
-    "not-found": 3, "not-dir": 4, "log-full": 5, "nothing": 6, "young": 7, "frozen": 8, "not-frozen": 9, "wrong-number": 10,
-    "journal-full": 13, "foreign": 14, "exists": 18, "is-dir": 19, "not-empty": 20, "loop": 21, "miss": 22, "down": 23, "too-big": 25,
-    "no-message": 30, "link-down": 31, "no-such-actor": 32, "already-there": 33, "cell-full": 40, "disk-fault": 41, "not-file": 44,
+    "not-found": 3, "not-dir": 4, "log-full": 5, "nothing": 6, "young": 7, "frozen": 8, "not-frozen": 9,
+    "wrong-number": 10, "journal-full": 13, "foreign": 14, "cache-full": 15, "exists": 18, "is-dir": 19,
+    "not-empty": 20, "loop": 21, "miss": 22, "down": 23, "too-big": 25, "no-message": 30, "link-down": 31,
+    "no-such-actor": 32, "already-there": 33, "cell-full": 40, "disk-fault": 41, "not-file": 44,
 }
 
 
