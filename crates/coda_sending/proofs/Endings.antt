@@ -37,7 +37,8 @@ use Rattle.coda_cell.specs.Sending.{Freezing, frozen_now, frozen_unless, frozen_
 use Rattle.coda_cell.specs.State.{ClientVolume, log_of}
 use Rattle.coda_cell.specs.Refused.{Refused}
 use Rattle.coda_cell.specs.Refused as refused
-use Rattle.coda_matching.specs.Clients.{entry_of, payload_by, journal_by, IsClientHistory, refused_as, Cut, LacksRoom, Ends}
+use Rattle.coda_matching.specs.Clients.{entry_of, payload_by, journal_by, IsClientHistory, Cut, LacksRoom, Ends}
+use Rattle.coda_cell.specs.Refusing.{client_refused_as}
 use Rattle.coda_matching.proofs.Histories.{journal_push, journals_leave_clients}
 use Rattle.coda_sending.specs.Ending.{entries_on, number_for, FreezingEnds, verdict_in, found_frozen, TakingEnds}
 
@@ -52,7 +53,7 @@ module _ {D A B : Type 0} (told : D → Told) (header : Header) (history : List 
   said_ends new a b is up = (a, refl, is, still new up)
 
   -- nothing is added, and the call is refused
-  pub refused_ends : (new : Venus D) (e : VenusRefused) → IsOwn e → IsUp told header new (journal_by history) → Ends told header history [] (Err (refused_as e)) IsAs new (Err e)
+  pub refused_ends : (new : Venus D) (e : VenusRefused) → IsOwn e → IsUp told header new (journal_by history) → Ends told header history [] (Err (client_refused_as e)) IsAs new (Err e)
   refused_ends new why.JournalFull own up = inl (refl, still new up)
   refused_ends new why.DiskFault own up = absurd own
   refused_ends new why.Memory own up = ([], [], refl, still new up)
@@ -131,7 +132,7 @@ chunk_is told header history venus volume recs up is all = all (state_of header 
 -- ---- a freeze
 
 -- why nothing is frozen, as a line is refused for it
-froze_refused : (e : FreezeFault) → refused_as (venus_refused_as e) ≡ line_refused_as e
+froze_refused : (e : FreezeFault) → client_refused_as (venus_refused_as e) ≡ line_refused_as e
 froze_refused (freeze.Frozen number home) = refl
 froze_refused freeze.Nothing = refl
 froze_refused (freeze.Young age window) = refl
@@ -164,8 +165,8 @@ module _ {D : Type 0} (told : D → Told) (header : Header) (history : List Clie
       ]))
 
   -- a refusal by which nothing changed
-  unkept : {A B : Type 0} (IsAs : A → B → Type 0) (e : VenusRefused) (result : Result B VenusRefused) → IsOwn e → result ≡ Err e → new ≡ old → Ends told header history [] (Err (refused_as e)) IsAs new result
-  unkept IsAs e result own is same = subst (Ends told header history [] (Err (refused_as e)) IsAs new) (sym is) (refused_ends told header history IsAs new e own (up_still same))
+  unkept : {A B : Type 0} (IsAs : A → B → Type 0) (e : VenusRefused) (result : Result B VenusRefused) → IsOwn e → result ≡ Err e → new ≡ old → Ends told header history [] (Err (client_refused_as e)) IsAs new result
+  unkept IsAs e result own is same = subst (Ends told header history [] (Err (client_refused_as e)) IsAs new) (sym is) (refused_ends told header history IsAs new e own (up_still same))
 
   module _ (now window server : ℕ) (result : Result ℕ VenusRefused) (number_is : (b : ℕ) → result ≡ Ok b → b ≡ v.chunks + 1) where
     -- what is due, by what stands against it
@@ -191,7 +192,7 @@ module _ {D : Type 0} (told : D → Told) (header : Header) (history : List Clie
 
 -- ---- an answer
 
-settle_refused : (e : SettleFault) → refused_as (unsettled_as e) ≡ settle_refused_as e
+settle_refused : (e : SettleFault) → client_refused_as (unsettled_as e) ≡ settle_refused_as e
 settle_refused (settle.NotFrozen number) = refl
 settle_refused (settle.WrongNumber frozen number) = refl
 settle_refused settle.Memory = refl
@@ -230,7 +231,7 @@ module _ {D : Type 0} (told : D → Told) (header : Header) (history : List Clie
   untaken : (e : SettleFault) → result ≡ Err (unsettled_as e) → new ≡ old → Wanted (Some e)
   untaken e is same =
       subst (λ r. Ends told header history [] (Err r) (λ (x y : ⊤). x ≡ y) new result) (settle_refused e)
-      (subst (Ends told header history [] (Err (refused_as (unsettled_as e))) (λ (x y : ⊤). x ≡ y) new) (sym is)
+      (subst (Ends told header history [] (Err (client_refused_as (unsettled_as e))) (λ (x y : ⊤). x ≡ y) new) (sym is)
       (refused_ends told header history (λ (x y : ⊤). x ≡ y) new (unsettled_as e) (settle_own e) (subst (λ (x : Venus D). IsUp told header x (journal_by history)) (sym same) up)))
 
   settled_by : (o : Option SettleFault) (said : Verdict) → verdict_in a ≡ Some said → DoesKeep told header old (journal_by history) (settles_unless o volume number said) new result → Wanted o

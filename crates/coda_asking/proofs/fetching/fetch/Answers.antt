@@ -1,7 +1,0 @@
-use Rattle.coda_asking.specs.Fetching.{nodes_offered}
-use Rattle.coda_asking.proofs.Absent.{fewer_once}
-use Rattle.coda_asking.proofs.fetching.fetch.Goals as goal
-
-pub returns-clause-fewer : goal.returns-clause-fewer
-returns-clause-fewer g c =
-    fewer_once c.installed.result (nodes_offered c.args.offers) c.args.venus.now.client.cache.nodes c.installed.new.self.client.cache.nodes c.args.fid c.in_ok-node.node c.installed.ensures.held c.in_ok-node.ensures.can

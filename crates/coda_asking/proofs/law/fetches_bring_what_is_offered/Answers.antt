@@ -1,8 +1,0 @@
-use Rattle.coda_asking.proofs.Brought.{brought}
-use Rattle.coda_asking.proofs.law.fetches_bring_what_is_offered.Goals as goal
-
-pub returns : goal.returns
-returns c = record {
-  operations = λ offers call d fids payloads are. brought offers call d fids payloads are;
-  shows = λ offers call d fids payloads are. brought offers call d fids payloads are;
-}
