@@ -59,7 +59,7 @@ known_before m client rec f pass (inr (d, n, is)) = elim (bound_before m client 
 
 -- ---- a replay
 
-certified : (o : Option Reason) (number : ℕ) (rest : Replayed) (left : Nodes) → unless_refused o number rest ≡ Ok left
+pub certified : (o : Option Reason) (number : ℕ) (rest : Replayed) (left : Nodes) → unless_refused o number rest ≡ Ok left
     → (o ≡ None) × (rest ≡ Ok left)
 certified None number rest left e = (refl, e)
 certified (Some why) number rest left e = cc
@@ -90,7 +90,7 @@ sent_created f span h = elim (created_added f [] span h) [ inl none ↦ absurd (
 
 -- ---- a decision
 
-either : (a b : Replayed) (m : Nodes) → or_replayed a b ≡ Ok m → (a ≡ Ok m) ⊎ (b ≡ Ok m)
+pub either : (a b : Replayed) (m : Nodes) → or_replayed a b ≡ Ok m → (a ≡ Ok m) ⊎ (b ≡ Ok m)
 either (Ok n) b m e = inl e
 either (Err why) b m e = inr e
 

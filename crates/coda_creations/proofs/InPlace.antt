@@ -1,7 +1,6 @@
 -- A log stays in place.
-use Rattle.std.proofs.Common.{◌≡◌, Bool, true, false, cond, ◌||◌, not, List, [], ◌∷◌, ◌++◌, append_assoc, Some, Ok}
-use Rattle.std.proofs.Common.{refl, sym, ap, ◌∙◌, subst, ⊎_elim, inl, inr, ◌⊎◌}
-use Rattle.std.specs.FinMap as map
+use Rattle.std.proofs.Common.{◌≡◌, Bool, true, false, ◌||◌, not, List, [], ◌∷◌, ◌++◌, append_assoc}
+use Rattle.std.proofs.Common.{refl, sym, ap, ◌∙◌, subst, ⊎_elim, inl, inr}
 use Rattle.std.proofs.lemmas.Bool.{cond_both, and_parts, or_parts, or_cases, or_left, or_right, false≢true}
 use Rattle.std.proofs.lemmas.Bool.{false_from_ne_true, cases_Bool}
 use Rattle.std.proofs.lemmas.List.{append-nil}
@@ -12,24 +11,22 @@ use Rattle.coda_fid.specs.declared.op.Op.{Op}
 use Rattle.coda_fid.specs.declared.op.Op.TheVariants.{Create, Mkdir, Symlink, Store, Setattr, Remove, Rmdir, Rename}
 use Rattle.coda_fid.specs.declared.op.Record.{Record}
 use Rattle.coda_tree.specs.Bindings.{Name}
-use Rattle.coda_tree.specs.Volume.{Nodes, child}
+use Rattle.coda_tree.specs.Volume.{Nodes}
 use Rattle.coda_cancel.specs.Handing.{Debt, nothing, owe, paid, hand, sid_or, with_pre}
 use Rattle.coda_cancel.specs.Dropping.{creates, writes, mentioning, drops}
 use Rattle.coda_cancel.specs.Cancel.{cancels, without, object, kept, debt, appended, add, added}
 use Rattle.coda_cancel.proofs.Debts.{creates-with_pre, mentioning-with_pre}
-use Rattle.coda_cancel.proofs.Keys.{is_write}
 use Rattle.coda_cml.specs.Steady.{any_record, unbinds, IsFresh}
 use Rattle.coda_cml.proofs.runs.AlmostAlike.{drops_write}
-use Rattle.coda_cml.proofs.runs.StillThere.{creates_mentions}
 use Rattle.coda_cml.proofs.runs.ThawedFold.{creates_in_add}
 use Rattle.coda_cml.proofs.runs.UndoneCreations.{all_records, only_made}
 use Rattle.coda_cml.proofs.runs.WithoutObject.{any-append, any_kept_sub, any_sub}
 use Rattle.coda_cell.proofs.KeptChildren.{unbinds_mentions, any_weaker}
 use Rattle.coda_overlay.specs.Overlaying.{AreCreatedAt}
-use Rattle.coda_creations.specs.Places.{AreWhereCreated, RemovesUnmoved, AllRemoveUnmoved, AllCreateFresh}
+use Rattle.coda_creations.specs.Places.{RemovesUnmoved, AllRemoveUnmoved, AllCreateFresh}
 use Rattle.coda_creations.specs.Places.{IsLogInPlace, LogsStayInPlace}
 use Rattle.coda_creations.proofs.Placed.{unbinds_none_made, unbinds_no_write, unbinds_with_pre, none_made, kept_unbinds}
-use Rattle.coda_creations.proofs.Placed.{without_unbinds, kept_made, without_made, made_with_pre, made_joined, made_front}
+use Rattle.coda_creations.proofs.Placed.{kept_made, made_with_pre, made_joined, made_front}
 use Rattle.coda_creations.proofs.Placed.{made_back, cancelled, AreLeft, left_on, fresh_behind, accepted_in_place}
 use Rattle.coda_creations.proofs.Placed.{places_kept, homes_are}
 

@@ -46,7 +46,7 @@ parted count (x ∷ front) back f a b are (inl i) j h k =
     omega (arith, at, one, more)
 parted count (x ∷ front) back f a b are (inr i) j h k = parted (count + created_by x.op) front back f a b are.1 i j h k
 
-in_ended : (rec : Record) (number : ℕ) (span : List Record) (es : List Ended) → In (InChunk number span) es
+pub in_ended : (rec : Record) (number : ℕ) (span : List Record) (es : List Ended) → In (InChunk number span) es
     → In rec span → In rec (all_in es)
 in_ended rec number span [] i j = absurd i
 in_ended rec number span (x ∷ es) (inl same) j =

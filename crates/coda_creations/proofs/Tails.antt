@@ -16,7 +16,7 @@ use Rattle.coda_plain.specs.Deeds.{Deed, Operated, Froze, Settled, Gaveup, creat
 use Rattle.coda_plain.specs.Deeds.{Course, end_of, course_after, course_of, pending_of, MayDo, AreLawful}
 use Rattle.coda_plain.specs.Deeds.{AreNumberedFrom}
 use Rattle.coda_plain.specs.Logs.{back_by, back_of}
-use Rattle.coda_plain.proofs.Lists.{some_record}
+use Rattle.coda_plain.proofs.Lists.{some_record, in_right}
 use Rattle.coda_plain.proofs.Chunking.{course_push, in_above}
 use Rattle.coda_plain.proofs.Ledger.{orderly}
 use Rattle.coda_creations.specs.Places.{MetNoConflict, ChunksAndTailsCreateApart}
@@ -43,6 +43,15 @@ made_own volume client count (x ∷ recs) rec f are (inl same) e =
     sym (are.0 f (ap (λ (r : Record). creates f r.op) (sym same) ∙ e)).own
 made_own volume client count (x ∷ recs) rec f are (inr i) e =
     made_own volume client (count + created_by x.op) recs rec f are.1 i e
+
+-- and of the volume
+pub made_here : (volume client count : ℕ) (recs : List Record) (rec : Record) (f : Fid)
+    → AreNumberedFrom volume client count recs → In rec recs → creates f rec.op ≡ true → volume ≡ f.volume
+made_here volume client count [] rec f are i e = absurd i
+made_here volume client count (x ∷ recs) rec f are (inl same) e =
+    sym (are.0 f (ap (λ (r : Record). creates f r.op) (sym same) ∙ e)).here
+made_here volume client count (x ∷ recs) rec f are (inr i) e =
+    made_here volume client (count + created_by x.op) recs rec f are.1 i e
 
 pub one_created : (f : Fid) (op : Op) → creates f op ≡ true → created_by op ≡ 1
 one_created f (Create dir name fid mode owner) h = refl
@@ -161,7 +170,7 @@ behind number last deeds (deed ∷ more) law none is =
 
 -- ---- the tail
 
-in_full : (rec : Record) (deeds more : List Deed) → In rec (full_of deeds) → In rec (full_of (deeds ++ more))
+pub in_full : (rec : Record) (deeds more : List Deed) → In rec (full_of deeds) → In rec (full_of (deeds ++ more))
 in_full rec [] more i = absurd i
 in_full rec (deed ∷ deeds) more i = joined (operation_in deed) i (in_full rec deeds more)
   where
@@ -170,6 +179,10 @@ in_full rec (deed ∷ deeds) more i = joined (operation_in deed) i (in_full rec 
     joined [] j go = go j
     joined (x ∷ xs) (inl same) go = inl same
     joined (x ∷ xs) (inr j) go = inr (joined xs j go)
+
+pub full_behind : (rec : Record) (deeds more : List Deed) → In rec (full_of more) → In rec (full_of (deeds ++ more))
+full_behind rec [] more i = i
+full_behind rec (deed ∷ deeds) more i = in_right rec (operation_in deed) (full_of (deeds ++ more)) (full_behind rec deeds more i)
 
 same_cut : (a b : Cut) → Some a ≡ Some b → a ≡ b
 same_cut a b e = cc

@@ -16,7 +16,6 @@ use Rattle.coda_cancel.specs.Cancel.{add, added}
 use Rattle.coda_cancel.specs.Dropping.{creates}
 use Rattle.coda_cml.specs.Segments.{records_upto}
 use Rattle.coda_cml.specs.Steady.{any_record, unbinds, IsFresh}
-use Rattle.coda_plain.specs.Histories.{In}
 use Rattle.coda_plain.specs.Deeds.{Deed, Froze, Settled, course_of, pending_of, AreLawful, AreNumberedObjects}
 use Rattle.coda_plain.specs.Cell.{Histories}
 use Rattle.coda_plain.specs.Sound.{deeds_in}

@@ -1,10 +1,13 @@
-//! Where the objects are bound that a client's log creates, and that no server has what it hasn't been sent.
+//! Where the objects are bound that a client's log creates, that no server has what it hasn't been sent, and that an
+//! object keeps the kind with which it was made.
 #![tactic(auto)]
 
 ghost use Rattle.coda_creations.specs.Places.{AcceptedRemovalsAreInPlace, ObjectsStayWhereCreated};
 ghost use Rattle.coda_creations.specs.Places.{UnmovedRemovalsAreInPlace, LogsStayInPlace, DecisionsBringCreations};
 ghost use Rattle.coda_creations.specs.Places.{ReplicasHaveWhatWasBrought, ChunksAndTailsCreateApart};
 ghost use Rattle.coda_creations.specs.Places.{ServersLackWhatTailsCreate};
+ghost use Rattle.coda_creations.specs.Kinds.{DecisionsKeepKinds, ReplicasKeepKinds, ClientsKeepKinds, LinesKeepKinds};
+ghost use Rattle.coda_creations.specs.Kinds.{ObjectsKeepTheirKind};
 
 /// A law of acceptance: where a client's cached directories bind what its log created only where the log created it, a
 /// removal that is accepted is from there, if it undoes the creation or nothing moved the object.
@@ -54,4 +57,36 @@ pub fn chunks_and_tails_create_apart()
 /// server didn't apply; in histories without resolutions.
 pub fn servers_lack_what_tails_create()
     ensures { ServersLackWhatTailsCreate }
+{}
+
+/// A law of decisions: what a server's volume has at a fid behind the decision of a chunk is of the kind, file, link or
+/// directory, of what it had there, or an operation of the chunk's span created it of this kind.
+pub fn decisions_keep_kinds()
+    ensures { DecisionsKeepKinds }
+{}
+
+/// A law of replicas: what a replica has at a fid behind any entries of its history is of the kind of what it had
+/// there, or was brought of this kind. Where nothing was taken over, it is of the kind with which its client made it; so
+/// the replicas of a volume agree on it.
+pub fn replicas_keep_kinds()
+    ensures { ReplicasKeepKinds }
+{}
+
+/// A law of clients: behind an operation that a client accepts, a fetch or a drop, what it holds at a fid is of the
+/// kind of what it held there, or the operation created it of this kind, or it is the node that was fetched.
+pub fn clients_keep_kinds()
+    ensures { ClientsKeepKinds }
+{}
+
+/// A law of lines: whatever a client or a replica has at a fid is of the kind with which the one operation that created
+/// the fid made it, and a volume's root is a directory; each line keeps it so, also one that is stopped. So a replica's
+/// node may come in the place of the one that a client holds, as `caches_stay_in_order` asks.
+pub fn lines_keep_kinds()
+    ensures { LinesKeepKinds }
+{}
+
+/// A law of cells: an object keeps its kind. In each cell to which lines lead, what a client holds at a fid and what
+/// the replica of its volume has there are both files, both links or both directories.
+pub fn objects_keep_their_kind()
+    ensures { ObjectsKeepTheirKind }
 {}
