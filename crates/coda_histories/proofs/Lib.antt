@@ -1,0 +1,5 @@
+pub mod Apart
+pub mod Ways
+pub mod Forests
+pub mod Directories
+pub mod Entries
