@@ -26,7 +26,7 @@ use Rattle.coda_histories.specs.Forests.{IsForest, AreUnderDirs}
 use Rattle.coda_histories.proofs.Forests.{IsBeside, stays_above, may_be_dir, without_was}
 use Rattle.coda_histories.proofs.Ways.{some_fid, get_left, left_was, stays_apart}
 
-put_was : (parents : Parents) (fid dir f p : Fid) → map.get (map.insert parents fid dir) f ≡ Some p → (map.get parents f ≡ Some p) ⊎ ((p ≡ dir) × (f ≡ fid))
+pub put_was : (parents : Parents) (fid dir f p : Fid) → map.get (map.insert parents fid dir) f ≡ Some p → (map.get parents f ≡ Some p) ⊎ ((p ≡ dir) × (f ≡ fid))
 put_was parents fid dir f p is = elim (fid_cases f fid) [
   | inl same ↦ inr (sym (some_fid dir p (sym (ap (map.get (map.insert parents fid dir)) same ∙ get_here fids_total parents fid dir) ∙ is)), same)
   | inr other ↦ inl (sym (get_else fids_total exact_fids parents fid dir f other) ∙ is)

@@ -1,10 +1,11 @@
 -- Each entry of a client's history keeps what is cached a forest, and so does the history.
-use Rattle.std.proofs.Common.{◌≡◌, ℕ, List, [], ◌∷◌, ◌++◌, Some, None, refl, sym, subst, ◌∙◌}
+use Rattle.std.proofs.Common.{ℕ, List, [], ◌∷◌, ◌++◌, Some, None, sym, subst, ◌∙◌}
 use Rattle.std.specs.FinMap as map
 use Rattle.coda_fid.specs.Fid.{fid_cmp}
 use Rattle.coda_fid.specs.declared.op.Op.{Op as Operation}
 use Rattle.coda_fid.specs.declared.op.Op.TheVariants.{Create, Mkdir, Symlink, Store, Setattr, Remove, Rmdir, Rename}
 use Rattle.coda_journal.specs.declared.header.Header.{Header}
+use Rattle.coda_plain.proofs.Lists.{left_push}
 use Rattle.coda_plain.specs.Histories.{left_by, DoFollow}
 use Rattle.coda_record.specs.declared.entry.ClientEntry.{ClientEntry}
 use Rattle.coda_record.specs.declared.entry.ClientEntry.TheVariants.{Op, Freeze, Settled, Giveup, Fetched, Dropped, Hoard, Snapshot}
@@ -70,20 +71,15 @@ replacing_nothing c (Snapshot snapshot) may none forest = absurd may
 
 -- ---- a history
 
-entered_all : (c : ClientState) (payload : Payload) → MayEnterAll c payload → KeepsKindsIn c payload → IsGrown c → IsGrown (client_after_all c payload)
+pub entered_all : (c : ClientState) (payload : Payload) → MayEnterAll c payload → KeepsKindsIn c payload → IsGrown c → IsGrown (client_after_all c payload)
 entered_all c [] may keeps grown = grown
 entered_all c (entry ∷ entries) may keeps grown = entered_all (client_after c entry) entries may.1 keeps.1 (entered c entry may.0 keeps.0 grown)
-
--- what is left by entries and one more
-left_on : {S E : Type 0} (step : S → E → S) (s : S) (past : List E) (entry : E) → left_by step s (past ++ entry ∷ []) ≡ step (left_by step s past) entry
-left_on step s [] entry = refl
-left_on step s (e ∷ past) entry = left_on step (step s e) past entry
 
 follows : (header : Header) (past history : List Payload) → DoFollow (MayFollow header) past history → DoFollow (λ before payload. KeepsKindsIn (state_of header before) payload) past history → IsGrown (state_of header past)
     → IsGrown (left_by client_after_all (state_of header past) history)
 follows header past [] may keeps grown = grown
 follows header past (payload ∷ history) may keeps grown =
-    let on = left_on client_after_all (new_client header.number header.cache) past payload in
+    let on = left_push client_after_all (new_client header.number header.cache) past payload in
     let next = entered_all (state_of header past) payload may.0.0 keeps.0 grown in
     subst (λ (c : ClientState). IsGrown (left_by client_after_all c history)) on (follows header (past ++ payload ∷ []) history may.1 keeps.1 (subst IsGrown (sym on) next))
 

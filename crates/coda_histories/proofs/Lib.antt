@@ -3,3 +3,4 @@ pub mod Ways
 pub mod Forests
 pub mod Directories
 pub mod Entries
+pub mod FetchedAsFiles

@@ -10,8 +10,8 @@ use Rattle.coda_record.specs.declared.entry.ClientEntry.{ClientEntry}
 use Rattle.coda_record.specs.declared.entry.ClientEntry.TheVariants.{Op, Fetched}
 use Rattle.coda_tree.specs.Volume.{has, IsDir, IsDirAt}
 use Rattle.coda_venus.specs.Held.{Held, is_below}
-use Rattle.coda_venus.specs.History.{Payload, MayEnter, IsHistory, state_of}
-use Rattle.coda_venus.specs.State.{ClientState, client_after}
+use Rattle.coda_venus.specs.History.{Payload, MayEnter, MayEnterAll, IsHistory, state_of}
+use Rattle.coda_venus.specs.State.{ClientState, new_client, client_after, client_after_all}
 
 -- What is cached is a forest: each object with a parent is cached, and so is its parent, which stands less deep, so that each way up ends.
 pub record IsForest (held : Held) : Type 0 where
@@ -69,3 +69,8 @@ OnlyReplacingAsksDirectories = (c : ClientState) (entry : ClientEntry) → MayEn
 -- In a forest no parent is below its child.
 abbrev pub NoParentIsBelowItsChild : Type 0
 NoParentIsBelowItsChild = (held : Held) → IsForest held → (f p : Fid) → map.get held.parents f ≡ Some p → is_below held.parents p f ≡ false
+
+-- Where a file is fetched in place of a directory that is cached, a rename may leave an object whose parent isn't cached: entries that
+-- may follow one another, from a client that was just made, leave no forest.
+abbrev pub FilesInPlaceOfDirectoriesLoseParents : Type 0
+FilesInPlaceOfDirectoriesLoseParents = (number : ℕ) × (blocks : ℕ) × (entries : Payload) × MayEnterAll (new_client number blocks) entries × (IsForest (client_after_all (new_client number blocks) entries).held → ⊥)
