@@ -24,7 +24,7 @@ left_at : {X : Type 0} (m : FinMap fid_cmp X) (test : Fid → Bool) (f : Fid)
     → map.get (map.retain_keys m test) f ≡ cond (test f) (map.get m f) None
 left_at m test f = map.get-retain_keys m test f (λ x e. ap test (sym (exact_fids f x e)))
 
-same_out : (op : Op) → goes_out op ≡ taken_out op
+pub same_out : (op : Op) → goes_out op ≡ taken_out op
 same_out (Create dir name fid mode owner) = refl
 same_out (Mkdir dir name fid mode owner) = refl
 same_out (Symlink dir name fid target mode owner) = refl

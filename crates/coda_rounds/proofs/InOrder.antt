@@ -81,7 +81,7 @@ in_order_cache s k = record {
 
 -- ---- what was looked up
 
-used_latest : (uses : List Fid) (x f : Fid) → is_listed uses f ≡ true → is_listed (latest uses x) f ≡ true
+pub used_latest : (uses : List Fid) (x f : Fid) → is_listed uses f ≡ true → is_listed (latest uses x) f ≡ true
 used_latest uses x f on = elim (fid_cases f x) [
   | inl same ↦ ap (is_listed (latest uses x)) same ∙ latest_here uses x
   | inr off ↦ latest_else uses x f off ∙ on

@@ -14,10 +14,10 @@ use Rattle.coda_rounds.specs.Entering.{IsInOrder, new_serving_client, NewClients
 nothing_there : (f : Fid) → (let m : Nodes = map.empty in IsSome (map.get m f)) → ⊥
 nothing_there f there = false≢true (ap (λ (o : Option Node). is_some o) (sym (map.get-empty fid_cmp f)) ∙ there)
 
-no_parent : (f p : Fid) → (let m : Parents = map.empty in map.get m f ≡ Some p) → ⊥
+pub no_parent : (f p : Fid) → (let m : Parents = map.empty in map.get m f ≡ Some p) → ⊥
 no_parent f p at = none-some p (sym (map.get-empty fid_cmp f) ∙ at)
 
-in_order : (number blocks : ℕ) → IsInOrder (new_serving_client number blocks)
+pub in_order : (number blocks : ℕ) → IsInOrder (new_serving_client number blocks)
 unfolding IsDistinct
 in_order number blocks = record {
   orderly = record {

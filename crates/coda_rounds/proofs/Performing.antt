@@ -41,7 +41,7 @@ use Rattle.coda_rounds.proofs.Unserved.{some_key, key_some, present, alike, belo
 use Rattle.coda_rounds.proofs.Whole.{what_was_looked_up}
 
 -- what an operation makes is the next object
-made_next : (t : Sight) (volume : ℕ) (op : Op) (dir f : Fid) → Relies t volume op → new_node op ≡ Some (dir, f)
+pub made_next : (t : Sight) (volume : ℕ) (op : Op) (dir f : Fid) → Relies t volume op → new_node op ≡ Some (dir, f)
     → f ≡ next_fid t volume
 made_next t volume (Create d name g mode owner) dir f r e =
     sym (ap (λ (p : Fid × Fid). p.1) (same_Some (d, g) (dir, f) e)) ∙ r.next
