@@ -42,7 +42,7 @@ use Rattle.coda_cache.proofs.Sized.{blocks_there, blocks_set, len_with, len_with
 use Rattle.coda_cache.proofs.Sourced.{covered_same}
 use Rattle.coda_cache.proofs.Standing.{marked_same, renewed_is, left_items, same_items, stands, held_dirty, dirty_or, stays_of, altered_at_all, dirty_changed}
 use Rattle.coda_cache.proofs.Taken.{taken_at}
-use Rattle.coda_cache.proofs.Under.{under_same, dirty_parent, dropped_parent}
+use Rattle.coda_cache.proofs.Under.{under_same, altered_parent, dirty_parent, dropped_parent}
 
 -- ---- the parts agree
 
@@ -213,6 +213,27 @@ module _ (q now : Queued) (m marked : Marks) (s : Sources) (k under : Children) 
     where
       parents : (g : Fid) → parent_of n g ≡ parent_of c g
       parents g = ap (λ (x : CacheState). parent_of x g) is ∙ dirty_parent c.holds fids g
+
+  -- a node becomes dirty, or clean
+  pub found_marked : (f : Fid) (b : Bool) → n ≡ steps.marked c f b → ((passes : Fid → Bool) → AreMarked m passes → AreMarked marked (λ g. cond (same_fid f g) (is_dirty n f) (passes g))) → AreFound q marked s k n
+  found_marked f b is set = record {
+    indexed = record {
+      queue = subst (IsQueued q) (sym (same_items c n (λ g. stands c n g (parents g) (ap (λ (x : CacheState). map.get x.nodes g) is) (ap (λ (x : CacheState). x.priorities) is)) (ap (λ (x : CacheState). x.recency) is))) was.indexed.queue;
+      marks = marked_same marked _ (is_dirty n) dirty (set (is_dirty c) was.indexed.marks);
+    };
+    covered = covered_same s (source_of c) (source_of n) (λ g. ap (λ (x : CacheState). source_of x g) is ∙ altered_source c.holds f (steps.set_dirty b) (λ _. refl) g) was.covered;
+    under = under_same k (parent_of c) (parent_of n) parents was.under;
+  }
+    where
+      parents : (g : Fid) → parent_of n g ≡ parent_of c g
+      parents g = ap (λ (x : CacheState). parent_of x g) is ∙ altered_parent c.holds f (steps.set_dirty b) (λ _. refl) g
+
+      dirty : (g : Fid) → cond (same_fid f g) (is_dirty n f) (is_dirty c g) ≡ is_dirty n g
+      dirty g = elim (fid_cases g f) [
+        | inl here ↦ ap (λ t. cond t (is_dirty n f) (is_dirty c g)) (ap (same_fid f) here ∙ same_fid_refl f) ∙ ap (is_dirty n) (sym here)
+        | inr apart ↦ ap (λ t. cond t (is_dirty n f) (is_dirty c g)) (not_same f g (λ here. apart (sym here)))
+            ∙ sym (ap (λ (x : CacheState). is_dirty x g) is ∙ ap held_dirty (off_altered c.holds f (steps.set_dirty b) g apart))
+      ]
 
   -- a node comes under another directory
   pub found_under : (f dir : Fid) (i : Item) (parent : Option Fid) → n ≡ moved_under (Some (f, dir)) c → i ≡ standing_of n f → ((items : List Item) → IsQueued q items → IsQueued now (with_item i items)) →

@@ -80,7 +80,7 @@ unlisted_joined (f ∷ fids) more g h k = (elim (same_fid f g) as (λ b. (b || i
   | false ↦ λ h. unlisted_joined fids more g h k
 ]) h
 
-fresh_ahead : (test : Fid → Bool) (fids more : List Fid) → AreFresh fids → AreFresh more → ((g : Fid) → is_listed fids g ≡ true → is_listed more g ≡ false) → AreFresh (filter test fids ++ more)
+pub fresh_ahead : (test : Fid → Bool) (fids more : List Fid) → AreFresh fids → AreFresh more → ((g : Fid) → is_listed fids g ≡ true → is_listed more g ≡ false) → AreFresh (filter test fids ++ more)
 fresh_ahead test [] more fresh once apart = once
 fresh_ahead test (f ∷ fids) more fresh once apart =
     let rest = fresh_ahead test fids more fresh.1 once (λ g h. apart g (later (same_fid f g) (is_listed fids g) h)) in

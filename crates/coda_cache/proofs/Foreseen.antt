@@ -108,7 +108,7 @@ except_unlisted (g ∷ fids) f free = (elim (same_fid g f) as (λ b. (b || is_li
   | false ↦ λ h. ap (λ l. g ∷ l) (except_unlisted fids f h)
 ]) free
 
-except_is : (recency fids : List Fid) → except_all recency fids ≡ filter (λ g. not (is_listed fids g)) recency
+pub except_is : (recency fids : List Fid) → except_all recency fids ≡ filter (λ g. not (is_listed fids g)) recency
 except_is recency [] = sym (filter_all recency)
 except_is recency (f ∷ fids) = except_is (except recency f) fids
     ∙ filter_twice (λ g. not (same_fid g f)) (λ g. not (is_listed fids g)) (λ g. not (is_listed (f ∷ fids) g)) recency (λ g. ap (λ b. not b && not (is_listed fids g)) (same_turned g f) ∙ neither (same_fid f g) (is_listed fids g))

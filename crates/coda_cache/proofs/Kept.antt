@@ -19,7 +19,7 @@ use Rattle.coda_cache.specs.Uses.{except, latest}
 use Rattle.coda_cache.specs.State.{CacheState, Holds, empty_cache, is_cached, parent_of, parent_held}
 use Rattle.coda_cache.specs.Ways.{is_below, at_or_below}
 use Rattle.coda_cache.specs.Keeping.{Agree}
-use Rattle.coda_cache.specs.Steps.{used, each, not_valid, invalidated, invalidated_from, valid_but_from, dirty_where, dirty_in, pinned_to, pinned_in, except_all, dropped, removed}
+use Rattle.coda_cache.specs.Steps.{used, each, not_valid, invalidated, invalidated_from, valid_but_from, dirty_where, dirty_in, pinned_to, pinned_in, set_dirty, marked, except_all, dropped, removed}
 use Rattle.coda_cache.specs.Laws.{IsCache, MayGo}
 use Rattle.coda_cache.proofs.Agreeing.{agree_none, agree_used, agree_altered, except_here}
 use Rattle.coda_cache.proofs.Written.{get_each, agree_each}
@@ -131,6 +131,9 @@ pinned_to_kept c fids k = each_kept c (dirty_where fids) (λ f hold. refl) k
 
 pub pinned_in_kept : (c : CacheState) (volume : ℕ) (fids : List Fid) → IsCache c → IsCache (pinned_in c volume fids)
 pinned_in_kept c volume fids k = each_kept c (dirty_in volume fids) (λ f hold. same_if _ (dirty_where fids f hold) hold refl) k
+
+pub marked_kept : (c : CacheState) (f : Fid) (dirty : Bool) → IsCache c → IsCache (marked c f dirty)
+marked_kept c f dirty k = altered_kept c f (set_dirty dirty) (λ hold. refl) k
 
 -- ---- nodes that go
 

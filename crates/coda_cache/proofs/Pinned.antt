@@ -14,8 +14,8 @@ use Rattle.coda_cache.specs.declared.hold.Hold.{Hold}
 use Rattle.coda_cache.specs.declared.queued.Queued.{Queued}
 use Rattle.coda_cache.specs.declared.marks.Marks.{Marks}
 use Rattle.coda_cache.specs.State.{CacheState, Holds, is_dirty}
-use Rattle.coda_cache.specs.Steps.{each, made_dirty, all_dirty}
-use Rattle.coda_cache.specs.Indexed.{standings, AreMarked, AreIndexed, is_of, dirty_of, pinned_of, set_dirty, set_all}
+use Rattle.coda_cache.specs.Steps.{each, made_dirty, set_dirty, all_dirty}
+use Rattle.coda_cache.specs.Indexed.{standings, AreMarked, AreIndexed, is_of, dirty_of, pinned_of, set_all}
 use Rattle.coda_cache.proofs.Written.{get_each}
 use Rattle.coda_cache.proofs.Standing.{held_dirty, marked_same, each_items, indexed_marked}
 

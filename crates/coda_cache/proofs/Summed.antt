@@ -1,5 +1,5 @@
 -- The blocks of the nodes in a set, as those of the items that pass a test.
-use Rattle.std.proofs.Common.{◌≡◌, ℕ, ◌+◌, ◌<◌, Bool, true, false, cond, not, ◌||◌, ◌&&◌, List, [], ◌∷◌, refl, sym, ap, ◌∙◌, inl, inr, arith}
+use Rattle.std.proofs.Common.{◌≡◌, ℕ, ◌+◌, ◌≤◌, ◌<◌, Bool, true, false, cond, not, ◌||◌, ◌&&◌, List, [], ◌∷◌, refl, sym, ap, ◌∙◌, inl, inr, arith}
 use Rattle.std.specs.Prelude as prelude
 use Rattle.std.specs.List.{filter, list_any, AllByRecursion, IsDistinct}
 use Rattle.std.specs.List.Sorted.{IsStrictlySortedBy}
@@ -99,6 +99,32 @@ sum_either one other weight apart (g ∷ fids) =
     both true true h = absurd (both_ways _ (h refl) refl)
     both true false h = omega arith
     both false b h = omega arith
+
+sum_or : (one other : Fid → Bool) (weight : Fid → ℕ) (fids : List Fid) →
+    sum_on (λ g. cond (one g || other g) (weight g) 0) fids ≤ sum_on (λ g. cond (one g) (weight g) 0) fids + sum_on (λ g. cond (other g) (weight g) 0) fids
+sum_or one other weight [] = omega arith
+sum_or one other weight (g ∷ fids) =
+    let rest = sum_or one other weight fids in
+    let here = both (one g) (other g) in
+    omega (arith, here, rest)
+  where
+    both : (a b : Bool) → cond (a || b) (weight g) 0 ≤ cond a (weight g) 0 + cond b (weight g) 0
+    both true b = omega arith
+    both false b = omega arith
+
+-- what is in a list, of all, weighs no more than the list
+pub sum_among : (weight : Fid → ℕ) (all : List Fid) → AreFresh all → (some : List Fid) → sum_on (λ g. cond (is_listed some g) (weight g) 0) all ≤ sum_on weight some
+sum_among weight all fresh [] = let none = sum_none all in omega (arith, none)
+sum_among weight all fresh (h ∷ some) =
+    let rest = sum_among weight all fresh some in
+    let split = sum_or (same_fid h) (is_listed some) weight all in
+    let one = sum_one h weight all fresh in
+    let own = at_most (is_listed all h) in
+    omega (arith, rest, split, one, own)
+  where
+    at_most : (b : Bool) → cond b (weight h) 0 ≤ weight h
+    at_most true = omega arith
+    at_most false = omega arith
 
 -- what is in a set, of all
 pub sum_within : (weight : Fid → ℕ) (all : List Fid) → AreFresh all → ((g : Fid) → is_listed all g ≡ false → weight g ≡ 0) → (some : List Fid) → AreFresh some → sum_on weight some ≡ sum_on (λ g. cond (is_listed some g) (weight g) 0) all

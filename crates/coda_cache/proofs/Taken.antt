@@ -45,7 +45,7 @@ except_more recency [] i d h = absurd (omega (arith, h))
 except_more recency (f ∷ fids) zero d h = refl
 except_more recency (f ∷ fids) (suc i) d h = except_more (except recency f) fids i d (omega (arith, h))
 
-except_at : (recency : List Fid) (f q : Fid) → is_listed (except recency f) q ≡ (not (same_fid f q) && is_listed recency q)
+pub except_at : (recency : List Fid) (f q : Fid) → is_listed (except recency f) q ≡ (not (same_fid f q) && is_listed recency q)
 except_at recency f q = elim (fid_cases q f) [
   | inl same ↦ ap (is_listed (except recency f)) same ∙ except_here recency f ∙ sym (ap (λ b. not b && is_listed recency q) (ap (same_fid f) same ∙ same_fid_refl f))
   | inr apart ↦ except_else recency f q apart ∙ sym (ap (λ b. not b && is_listed recency q) (not_same f q (λ same. apart (sym same))))

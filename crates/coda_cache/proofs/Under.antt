@@ -76,7 +76,7 @@ parent_changed : (change : Hold → Hold) → ((hold : Hold) → (change hold).p
 parent_changed change same None = refl
 parent_changed change same (Some hold) = same hold
 
-altered_parent : (holds : Holds) (f : Fid) (change : Hold → Hold) → ((hold : Hold) → (change hold).parent ≡ hold.parent) → (g : Fid) → parent_held (map.get (altered holds f change) g) ≡ parent_held (map.get holds g)
+pub altered_parent : (holds : Holds) (f : Fid) (change : Hold → Hold) → ((hold : Hold) → (change hold).parent ≡ hold.parent) → (g : Fid) → parent_held (map.get (altered holds f change) g) ≡ parent_held (map.get holds g)
 altered_parent holds f change same g = elim (altered_at_all holds f change g) [
   | inl e ↦ ap parent_held e
   | inr e ↦ ap parent_held e ∙ parent_changed change same (map.get holds g)

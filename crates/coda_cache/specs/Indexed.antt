@@ -25,7 +25,7 @@ use Rattle.coda_cache.specs.declared.by_use.Use.{Use}
 use Rattle.coda_cache.specs.declared.cache.Cache.TheInside.{Inside}
 use Rattle.coda_tree.specs.Slots.{altered}
 use Rattle.coda_cache.specs.declared.hold.Hold.{Hold}
-use Rattle.coda_cache.specs.Steps.{each, dirty_where, valid_but_from}
+use Rattle.coda_cache.specs.Steps.{each, dirty_where, set_dirty, valid_but_from}
 use Rattle.coda_cache.specs.State.{CacheState, Holds, parent_of, priority_of, blocks_at, is_dirty, source_of}
 
 -- ---- the queue
@@ -127,10 +127,6 @@ dirty_of volume fids f hold = cond (is_of volume f) (dirty_where fids f hold) ho
 -- the cache in which exactly these nodes are dirty, where they are cached and of the volume
 abbrev pub pinned_of : CacheState → Option ℕ → List Fid → CacheState
 pinned_of c volume fids = record c { holds = each (dirty_of volume fids) c.holds }
-
--- a hold of a dirty node, or of a clean one
-abbrev pub set_dirty : Bool → Hold → Hold
-set_dirty dirty hold = record hold { dirty = dirty }
 
 -- the holds in which those of these nodes that are of the volume are dirty, or clean
 abbrev pub set_all : Option ℕ → Bool → Holds → List Fid → Holds

@@ -1,5 +1,5 @@
 -- What each call makes of a cache.
-use Rattle.std.specs.Prelude.{ℕ, true, false, not, ◌&&◌, ◌==◌, if◌then◌else◌, List, [], ◌∷◌, Option, Some, None}
+use Rattle.std.specs.Prelude.{ℕ, Bool, true, false, not, ◌&&◌, ◌==◌, if◌then◌else◌, List, [], ◌∷◌, Option, Some, None}
 use Rattle.std.specs.Prelude as prelude
 use Rattle.std.specs.Option.{option_map_or}
 use Rattle.std.specs.FinMap as map
@@ -33,6 +33,10 @@ not_valid hold = record hold { from = None }
 -- a hold of a dirty node
 abbrev pub made_dirty : Hold → Hold
 made_dirty hold = record hold { dirty = true }
+
+-- a hold of a dirty node, or of a clean one
+abbrev pub set_dirty : Bool → Hold → Hold
+set_dirty dirty hold = record hold { dirty = dirty }
 
 -- a hold under another parent
 abbrev pub under : Fid → Hold → Hold
@@ -73,6 +77,10 @@ pinned_to c fids = record c { holds = each (dirty_where fids) c.holds }
 -- the cache in which exactly these nodes of a volume, where they are cached, are dirty: those that its log mentions
 abbrev pub pinned_in : CacheState → ℕ → List Fid → CacheState
 pinned_in c volume fids = record c { holds = each (dirty_in volume fids) c.holds }
+
+-- the cache in which a node, where it is cached, is dirty or clean
+abbrev pub marked : CacheState → Fid → Bool → CacheState
+marked c f dirty = record c { holds = altered c.holds f (set_dirty dirty) }
 
 -- ---- putting
 

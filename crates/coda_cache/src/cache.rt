@@ -11,7 +11,7 @@ ghost use Rattle.coda_cache.specs.Room.{evicted_for, evicted_between, evicted_af
 ghost use Rattle.coda_cache.specs.Prospects.{Foresees};
 ghost use Rattle.coda_cache.specs.declared.fault.CacheFault as CacheFault;
 ghost use Rattle.coda_cache.specs.declared.fault.CacheFault.TheVariants.{CacheFull};
-ghost use Rattle.coda_cache.specs.Steps.{taken_out, taken_below, used, invalidated, invalidated_from, pinned_to, pinned_in, put_in, without, dropped, removed, walked};
+ghost use Rattle.coda_cache.specs.Steps.{taken_out, taken_below, used, invalidated, invalidated_from, pinned_to, pinned_in, marked, put_in, without, dropped, removed, walked};
 ghost use Rattle.coda_cache.specs.Walking.{AreCounted};
 ghost use Rattle.coda_walk.specs.Going.{is_listed};
 ghost use Rattle.coda_cache.specs.Indexed.{pinned_of};
@@ -19,8 +19,8 @@ ghost use Rattle.coda_cache.specs.Indexed.{pinned_of};
 use crate::children::Children;
 use crate::contents::Contents;
 use crate::marks::Marks;
-use crate::operating::taken_out;
-use crate::prospect::Prospect;
+use crate::operating::{mentioned, taken_out};
+use crate::prospect::{Prospect, set_of};
 use crate::queued::Queued;
 use crate::sources::Sources;
 use crate::{CacheFault, CacheRow, by_use, descending, room};
@@ -283,6 +283,14 @@ impl Cache {
         }
     }
 
+    /// Makes a node dirty or clean, where it is cached. Costs a constant, and a logarithm more where the marks are kept.
+    pub fn mark(&mut self, fid: Fid, dirty: bool)
+        ensures { self.new ≡ marked self.old fid dirty }
+    {
+        self.contents.mark(fid, dirty);
+        self.dirty.set_as(&self.contents, fid);
+    }
+
     /// Takes out a node alone, with its hold and its place in the order of use.
     pub fn take_out(&mut self, fid: Fid)
         ensures { self.new ≡ without self.old fid }
@@ -454,6 +462,29 @@ impl Cache {
         match self.queued.blocks() {
             Some(total) => {
                 let more = self.contents.growth(prospect, rec)?;
+                Ok(room::fits(self.contents.size(), total, more))
+            }
+            None => Ok(false),
+        }
+    }
+
+    /// Whether what an operation adds surely fits beside all that is cached, so that nobody goes for it, whatever it looked up and
+    /// whatever the log mentions once it is made. Where the nodes are not kept by their use (`index`), this is not known.
+    ///
+    /// Costs a constant. Where the answer is no, `evict_after` says who goes.
+    ///
+    /// # Errors
+    ///
+    /// Fails for want of memory alone, which stands too for a number of blocks that doesn't fit in 64 bits, or of one node in 32.
+    pub fn fits_after(&self, rec: &Record) -> Result<bool, AllocError>
+        requires { MayApply self.now.nodes rec.now.op }
+        ensures { (client volume : ℕ) (mentioned looked_up : List Fid) → IfOk result (λ fits. OnTrue fits (evicted_after self.now client volume rec.now mentioned looked_up ≡ Ok [])) }
+    {
+        self.contents.agree();
+        match self.queued.blocks() {
+            Some(total) => {
+                let touched = set_of(self.contents.alloc(), &mentioned(&rec.op))?;
+                let more = self.contents.growth_by(rec, &touched)?;
                 Ok(room::fits(self.contents.size(), total, more))
             }
             None => Ok(false),

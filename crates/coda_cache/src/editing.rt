@@ -5,7 +5,7 @@ ghost use Rattle.coda_tree.specs.declared.node.NodeKind.TheVariants.{File};
 ghost use Rattle.coda_tree.specs.Volume.{child, changed, bound, unbound, moved, written, content_patch, attrs_patch, IsDirAt};
 ghost use Rattle.coda_walk.specs.Going.{is_listed};
 ghost use Rattle.coda_cache.specs.Ways.{at_or_below};
-ghost use Rattle.coda_cache.specs.Steps.{removed, moved_under, dirtied};
+ghost use Rattle.coda_cache.specs.Steps.{removed, moved_under, dirtied, marked};
 ghost use Rattle.coda_cache.specs.Operating.{with_nodes};
 
 use crate::contents::Contents;
@@ -102,6 +102,13 @@ impl Contents {
         ensures { self.new ≡ moved_under (Some (fid, dir)) self.old }
     {
         self.holds.move_under(fid, dir);
+    }
+
+    // Makes a node dirty or clean, where it is held. Takes no memory.
+    pub(crate) fn mark(&mut self, fid: Fid, dirty: bool)
+        ensures { self.new ≡ marked self.old fid dirty }
+    {
+        self.holds.set_dirty(fid, dirty);
     }
 
     // Makes nodes dirty, where they are held. Takes no memory.

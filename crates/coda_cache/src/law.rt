@@ -1,9 +1,9 @@
-ghost use Rattle.std.specs.Prelude.{◌≡◌, ℕ, List, Option, Ok};
+ghost use Rattle.std.specs.Prelude.{◌≡◌, ℕ, Bool, List, Option, Ok};
 ghost use Rattle.coda_fid.specs.declared.fid.Fid.{Fid};
 ghost use Rattle.coda_fid.specs.declared.op.Record.{Record};
 ghost use Rattle.coda_tree.specs.declared.node.Node.{Node};
 ghost use Rattle.coda_cache.specs.State.{CacheState, empty_cache};
-ghost use Rattle.coda_cache.specs.Steps.{used, invalidated, invalidated_from, pinned_to, pinned_in, put_in, walked, dropped, removed, mutated};
+ghost use Rattle.coda_cache.specs.Steps.{used, invalidated, invalidated_from, pinned_to, pinned_in, marked, put_in, walked, dropped, removed, mutated};
 ghost use Rattle.coda_walk.specs.Laws.{GoRightly};
 ghost use Rattle.coda_cache.specs.Room.{evicted_for, items_with, kept_for, items_of, with_ancestors, pinned_blocks, further_blocks, operated, evicted_after};
 ghost use Rattle.coda_cache.specs.Laws.{IsCache, MayHold, MayHoldAll, MayGo, MayMutate, KeepsPlace, IsFullRightly};
@@ -18,6 +18,7 @@ pub fn steps_keep_caches()
     ensures invalidated_from { (c : CacheState) (volume server : ℕ) → IsCache c → IsCache (invalidated_from c volume server) }
     ensures pinned_to { (c : CacheState) (fids : List Fid) → IsCache c → IsCache (pinned_to c fids) }
     ensures pinned_in { (c : CacheState) (volume : ℕ) (fids : List Fid) → IsCache c → IsCache (pinned_in c volume fids) }
+    ensures marked { (c : CacheState) (f : Fid) (dirty : Bool) → IsCache c → IsCache (marked c f dirty) }
     ensures put { (c : CacheState) (f : Fid) (parent : Option Fid) (node : Node) (from : Option ℕ) → IsCache c → MayHold c f parent → IsCache (put_in c f parent node from) }
     ensures walked { (c : CacheState) (puts : List (Fid × Option Fid × Node × ℕ)) (of : List (Fid × ℕ)) → IsCache c → MayHoldAll c puts → IsCache (walked c puts of) }
     ensures dropped { (c : CacheState) (fids : List Fid) → IsCache c → MayGo c fids → IsCache (dropped c fids) }

@@ -39,5 +39,7 @@ pub use hold::Hold;
 pub use law::{
     steps_keep_caches, who_goes_for_a_node_is_right, who_goes_for_an_operation_is_right,
 };
+pub use operating::{mentioned, taken_out};
 pub use recency::Recency;
 pub use row::CacheRow;
+pub use sizes::kind_blocks;

@@ -120,7 +120,7 @@ impl Marks {
     }
 
     // Marks a fid where its node is dirty, and else no longer. Whether it is is looked up where marks are kept alone.
-    fn set_as(&mut self, contents: &Contents, fid: Fid)
+    pub(crate) fn set_as(&mut self, contents: &Contents, fid: Fid)
         ensures { (passes : Fid → Bool) → AreMarked self.old passes → AreMarked self.new (λ f. cond (same_fid fid f) (is_dirty contents.now fid) (passes f)) }
     {
         if let Some(fids) = self.fids.take() {

@@ -25,8 +25,8 @@ pub(crate) fn new_node(op: &Op) -> Option<(Fid, Fid)>
     }
 }
 
-// The node that an operation takes out.
-pub(crate) fn taken_out(op: &Op) -> Option<Fid>
+/// The node that an operation takes out.
+pub fn taken_out(op: &Op) -> Option<Fid>
     ensures { result ≡ taken_out op.now }
 {
     match op {
@@ -60,8 +60,8 @@ pub(crate) fn moved_node(op: &Op) -> Option<(Fid, Fid)>
     }
 }
 
-// The nodes that an operation mentions, some of them maybe twice.
-pub(crate) fn mentioned(op: &Op) -> [Fid; 4]
+/// The nodes that an operation mentions, some of them maybe twice.
+pub fn mentioned(op: &Op) -> [Fid; 4]
     ensures { (f : Fid) → is_listed result f ≡ is_listed (fids_of op.now) f }
 {
     match op {

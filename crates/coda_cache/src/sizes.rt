@@ -127,8 +127,8 @@ fn file_blocks(content: &Bytes) -> Result<u32, AllocError>
     small(1 + content.len().div_ceil(1024))
 }
 
-// The blocks of a node of a kind.
-fn kind_blocks(kind: &NodeKind) -> Result<u32, AllocError>
+/// The blocks of a node of a kind. Fails where they don't fit in 32 bits.
+pub fn kind_blocks(kind: &NodeKind) -> Result<u32, AllocError>
     ensures { IfOk result (λ b. b ≡ blocks_of kind.now) }
 {
     match kind {
@@ -284,7 +284,7 @@ impl Contents {
     }
 
     // The blocks of a node once an operation is applied.
-    fn blocks_applied(&self, rec: &Record, fid: Fid) -> Result<u32, AllocError>
+    pub(crate) fn blocks_applied(&self, rec: &Record, fid: Fid) -> Result<u32, AllocError>
         ensures { (client : ℕ) → IfOk result (λ b. b ≡ blocks_in (applied self.now.nodes client rec.now) fid) }
     {
         match &rec.op {

@@ -20,6 +20,9 @@ returns-clause-pinned_to c = λ s fids k. kept.pinned_to_kept s fids k
 pub returns-clause-pinned_in : goal.returns-clause-pinned_in
 returns-clause-pinned_in c = λ s volume fids k. kept.pinned_in_kept s volume fids k
 
+pub returns-clause-marked : goal.returns-clause-marked
+returns-clause-marked c = λ s f dirty k. kept.marked_kept s f dirty k
+
 pub returns-clause-put : goal.returns-clause-put
 returns-clause-put c = λ s f parent node from k may. more.put_kept s f parent node from k may
 

@@ -1,20 +1,13 @@
-use Rattle.std.proofs.Common.{◌≡◌, ◌+◌, ◌≤◌, Bool, true, false, not, [], refl, sym, ap, ◌∙◌, subst, ℕ, arith}
-use Rattle.std.specs.Prelude.{Ok, nat_lt}
+use Rattle.std.proofs.Common.{◌≡◌, true, false, [], refl, sym, ap, ◌∙◌, subst, arith}
+use Rattle.std.specs.Prelude.{Ok}
 use Rattle.std.specs.Bool.{OnTrue}
-use Rattle.std.proofs.lemmas.Bool.{both_ways, ltb-false}
 use Rattle.coda_cache.specs.State.{CacheState}
 use Rattle.coda_cache.specs.Room.{evicted_between}
 use Rattle.coda_cache.specs.Indexed.{standing_of, standings}
 use Rattle.coda_cache.specs.Prospects.{Foresees}
-use Rattle.coda_cache.proofs.Grown.{none_goes_after}
+use Rattle.coda_cache.proofs.Grown.{no_more, none_goes_after}
 use Rattle.coda_cache.proofs.Summed.{fresh_items}
 use Rattle.coda_cache.proofs.cache.Cache.has_room_after.Goals as goal
-
-no_more : (fits : Bool) (size taken more : ℕ) → fits ≡ not (nat_lt size (taken + more)) → fits ≡ true → taken + more ≤ size
-no_more fits size taken more is fit = (elim (nat_lt size (taken + more)) as (λ b. nat_lt size (taken + more) ≡ b → not b ≡ true → taken + more ≤ size) [
-  | true ↦ λ _ h. absurd (both_ways _ refl h)
-  | false ↦ λ e _. ltb-false _ _ e
-]) refl (sym is ∙ fit)
 
 pub returns-in_ok-more-in-Some : goal.returns-in_ok-more-in-Some
 returns-in_ok-more-in-Some c = λ client n looked_up is.

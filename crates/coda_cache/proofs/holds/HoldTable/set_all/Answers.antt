@@ -3,7 +3,8 @@ use Rattle.std.specs.Prelude.{slice_index_or}
 use Rattle.coda_fid.specs.declared.fid.Fid.{Fid}
 use Rattle.coda_tree.specs.Slots.{altered}
 use Rattle.coda_cache.specs.State.{Holds}
-use Rattle.coda_cache.specs.Indexed.{is_of, set_dirty, set_all}
+use Rattle.coda_cache.specs.Indexed.{is_of, set_all}
+use Rattle.coda_cache.specs.Steps.{set_dirty}
 use Rattle.coda_cache.proofs.Pinned.{more_set}
 use Rattle.coda_cache.proofs.holds.HoldTable.set_all.Goals as goal
 

@@ -2,7 +2,7 @@ use Rattle.std.proofs.Common.{ap, ◌∙◌}
 use Rattle.coda_tree.specs.Slots.{altered}
 use Rattle.coda_tree.proofs.Keyed.{keyed_altered}
 use Rattle.coda_cache.specs.State.{Holds}
-use Rattle.coda_cache.specs.Indexed.{set_dirty}
+use Rattle.coda_cache.specs.Steps.{set_dirty}
 use Rattle.coda_cache.proofs.holds.HoldTable.set_dirty.Goals as goal
 
 pub returns : goal.returns
