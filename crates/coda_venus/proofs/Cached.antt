@@ -21,7 +21,7 @@ use Rattle.coda_walk.specs.Going.{is_listed}
 use Rattle.coda_cache.specs.declared.hold.Hold.{Hold}
 use Rattle.coda_cache.specs.Keeping.{Agree}
 use Rattle.coda_cache.specs.State.{CacheState, Holds, empty_cache, parent_held}
-use Rattle.coda_cache.specs.Steps.{made_dirty, under, kept_parent, put_in, without, taken_from, dropped, new_node, taken_out as out_of, taken_below, held_new, new_hold, all_dirty, mutated}
+use Rattle.coda_cache.specs.Steps.{made_dirty, set_dirty, marked, not_valid, invalidated, under, kept_parent, put_in, without, taken_from, dropped, new_node, taken_out as out_of, taken_below, held_new, new_hold, all_dirty, mutated}
 use Rattle.coda_cache.specs.Ways.{at_or_below, is_below as is_below_in}
 use Rattle.coda_cache.proofs.Kept.{listed_where}
 use Rattle.coda_cache.proofs.Taken.{taken_at}
@@ -33,10 +33,10 @@ use Rattle.coda_cache.specs.Parents.{parents_of, below_within}
 use Rattle.coda_cache.proofs.Parents.{parent_there, below_alike}
 
 -- parents that are alike at each object
-same_parents : (p q : Parents) → ((f : Fid) → map.get p f ≡ map.get q f) → p ≡ q
+pub same_parents : (p q : Parents) → ((f : Fid) → map.get p f ≡ map.get q f) → p ≡ q
 same_parents p q alike = map.same_map fids_total exact_fids p q alike
 
-held_is : (nodes one : Nodes) (parents other : Parents) → nodes ≡ one → parents ≡ other → (let h : Held = record { nodes = nodes; parents = parents } in h) ≡ (let h : Held = record { nodes = one; parents = other } in h)
+pub held_is : (nodes one : Nodes) (parents other : Parents) → nodes ≡ one → parents ≡ other → (let h : Held = record { nodes = nodes; parents = parents } in h) ≡ (let h : Held = record { nodes = one; parents = other } in h)
 held_is nodes one parents other n p = λ i. let h : Held = record { nodes = n i; parents = p i } in h
 
 -- ---- what an object's parent is once its hold changed
@@ -109,10 +109,10 @@ empty_held size = held_is map.empty map.empty (parents_of map.empty) map.empty r
 
 -- ---- a fetch and a drop
 
-pub fetch_held : (c : CacheState) (fid : Fid) (parent : Option Fid) (node : Node) → Agree c.nodes c.holds c.recency → IsParent (held_in c) fid parent → held_in (put_in c fid parent node None) ≡ held_after_fetch (held_in c) fid parent node
-fetch_held c fid parent node agree is =
-    held_is _ _ (parents_of (map.insert c.holds fid (record { parent = kept_parent (map.get c.holds fid) parent; from = None; dirty = false }))) (with_parent (parents_of c.holds) fid parent) refl
-    (same_parents _ _ (λ q. parents_put c.holds fid (record { parent = kept_parent (map.get c.holds fid) parent; from = None; dirty = false }) q ∙ by parent is q))
+pub fetch_held : (c : CacheState) (fid : Fid) (parent : Option Fid) (node : Node) (from : Option ℕ) → Agree c.nodes c.holds c.recency → IsParent (held_in c) fid parent → held_in (put_in c fid parent node from) ≡ held_after_fetch (held_in c) fid parent node
+fetch_held c fid parent node from agree is =
+    held_is _ _ (parents_of (map.insert c.holds fid (record { parent = kept_parent (map.get c.holds fid) parent; from = from; dirty = false }))) (with_parent (parents_of c.holds) fid parent) refl
+    (same_parents _ _ (λ q. parents_put c.holds fid (record { parent = kept_parent (map.get c.holds fid) parent; from = from; dirty = false }) q ∙ by parent is q))
   where
     own : (o : Option Hold) → kept_parent o None ≡ parent_held o
     own None = refl
@@ -138,6 +138,14 @@ drop_held c fid = held_is _ _ (parents_of (map.remove c.holds fid)) (map.remove 
   | inr other ↦
       parent_there (map.remove c.holds fid) q ∙ ap parent_held (gone_else fids_total exact_fids c.holds fid q other) ∙ sym (parent_there c.holds q) ∙ sym (gone_else fids_total exact_fids (parents_of c.holds) fid q other)
 ]))
+
+-- ---- what is kept beside what is held
+
+pub marked_held : (c : CacheState) (fid : Fid) (dirty : Bool) → held_in (marked c fid dirty) ≡ held_in c
+marked_held c fid dirty = held_is _ _ (parents_of (altered c.holds fid (set_dirty dirty))) (parents_of c.holds) refl (same_parents _ _ (altered_parents c.holds fid (set_dirty dirty) (λ hold. refl)))
+
+pub invalidated_held : (c : CacheState) (fid : Fid) → held_in (invalidated c fid) ≡ held_in c
+invalidated_held c fid = held_is _ _ (parents_of (altered c.holds fid not_valid)) (parents_of c.holds) refl (same_parents _ _ (altered_parents c.holds fid not_valid (λ hold. refl)))
 
 -- ---- an operation
 

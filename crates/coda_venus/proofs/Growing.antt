@@ -57,7 +57,7 @@ unfolding client_payload client_entry
 settled_spelled volume number verdict v a low high =
     both_true _ _ refl (both_true _ _ (both_true _ _ refl (both_true _ _ v (both_true _ _ (within 1 4294967295 eight number low high (omega (arith, high))) (both_true _ _ a refl)))) refl)
 
-operation_spelled : (volume : ℕ) (rec : Record) → HasSpelling table.volume volume → IsSpelled rec → HasSpelling (client_payload four) (Op volume rec ∷ [])
+pub operation_spelled : (volume : ℕ) (rec : Record) → HasSpelling table.volume volume → IsSpelled rec → HasSpelling (client_payload four) (Op volume rec ∷ [])
 unfolding client_payload client_entry table.record_above
 operation_spelled volume rec v is =
     let n = is_within 1 4294967295 eight rec.number is.number in

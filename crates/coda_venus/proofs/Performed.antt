@@ -33,7 +33,7 @@ pub volume_is : (v : ClientVolume) (o : Option VolumeLog) → IsLogAt v o → vo
 volume_is v None at = sym at
 volume_is v (Some code) at = λ i. let w : ClientVolume = record { log = at.log i; creations = at.creations i } in w
 
-creations_are : (o : Option VolumeLog) → creations_in o ≡ (volume_in o).creations
+pub creations_are : (o : Option VolumeLog) → creations_in o ≡ (volume_in o).creations
 creations_are None = refl
 creations_are (Some code) = refl
 
@@ -61,7 +61,7 @@ relies_there s volume (Rmdir dir name fid pre) r = r.1
 relies_there s volume (Rename from_dir from to_dir to fid None) r = (r.there, tt)
 relies_there s volume (Rename from_dir from to_dir to fid (Some over)) r = (r.there, r.replaced.0)
 
-relies_begin : (s : Sight) (volume : ℕ) (op : Op) → Relies s volume op → MayBegin s.held.nodes op
+pub relies_begin : (s : Sight) (volume : ℕ) (op : Op) → Relies s volume op → MayBegin s.held.nodes op
 relies_begin s volume op r = record { apply = relies_may_apply s volume op r; there = relies_there s volume op r }
 
 pub may_begin : (code : Client) (volume : ℕ) (ask : Asked) (op : Op) → accept (sight code volume) volume ask ≡ Ok op → MayBegin code.cache.nodes op

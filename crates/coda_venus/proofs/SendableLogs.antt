@@ -23,6 +23,7 @@ use Rattle.coda_record.proofs.PartsAgree.{first_true, second_true}
 use Rattle.coda_spelling.specs.Spelled.{IsSpelled, AreAllSpelled}
 use Rattle.coda_spelling.proofs.SpelledRecords.{single_spelled}
 use Rattle.coda_venus.specs.Code.{IsLogAt, IsClient, volume_in, held_of}
+use Rattle.coda_venus.specs.Held.{Held}
 use Rattle.coda_venus.specs.History.{Payload, state_of, last_to_go, MayFreeze, MayEnterAll, MayFollow, IsHistory}
 use Rattle.coda_venus.specs.Keeping.{next_chunk}
 use Rattle.coda_venus.specs.Logs.{IsSendable, AreSendable}
@@ -130,6 +131,12 @@ pub sendable_after : {A E : Type 0} (r : Result A E) (old new : Client) (e : Cli
     → AreSendable new.logs
 sendable_after (Ok x) old new e all may is err = sendable_in (client_after (state_now old) e) new (entered_sendable (state_now old) e all may) is
 sendable_after (Err x) old new e all may is err = sendable_in (state_now old) new all err
+
+-- the same, where something else is held besides
+pub sendable_with : {A E : Type 0} (r : Result A E) (old new : Client) (e : ClientEntry) (held : Held) → AreSendable old.logs → OnOk r (MayLog (state_now old) e) → OnOk r (IsClient (record (client_after (state_now old) e) { held = held }) new)
+    → OnErr r (IsClient (state_now old) new) → AreSendable new.logs
+sendable_with (Ok x) old new e held all may is err = sendable_in (record (client_after (state_now old) e) { held = held }) new (entered_sendable (state_now old) e all may) is
+sendable_with (Err x) old new e held all may is err = sendable_in (state_now old) new all err
 
 -- a chunk that is frozen
 pub freezes : {A E : Type 0} (r : Result A E) (log : LogState) (now window : ℕ) → OnOk r (IsOk (next_chunk log now window)) → OnOk r (MayFreeze log (log.chunks + 1) (last_to_go now window log.segments))

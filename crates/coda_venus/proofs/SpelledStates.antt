@@ -83,7 +83,7 @@ after_put m fid node are is = record {
   ];
 }
 
-after_taken : (m : Nodes) (fid : Fid) → AreSpelled m → AreSpelled (map.remove m fid)
+pub after_taken : (m : Nodes) (fid : Fid) → AreSpelled m → AreSpelled (map.remove m fid)
 after_taken m fid are = record {
   versions = λ f other e. elim (fid_cases f fid) [
     | inl same ↦ (let no : None ≡ Some other = sym (ap (map.get (map.remove m fid)) same ∙ gone_here fids_total m fid) ∙ e in cc)

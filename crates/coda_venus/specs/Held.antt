@@ -1,5 +1,5 @@
 -- What a client holds: nodes, and the directory that is the parent of each.
-use Rattle.std.specs.Prelude.{ℕ, Bool, true, ◌&&◌, not, Option, Some, None, is_some, option_map, ◌≡◌}
+use Rattle.std.specs.Prelude.{ℕ, Bool, true, ◌&&◌, not, List, [], ◌∷◌, Option, Some, None, is_some, option_map, ◌≡◌}
 use Rattle.std.specs.List.{list_any}
 use Rattle.std.specs.FinMap as map
 use Rattle.std.specs.FinMap.{FinMap}
@@ -103,3 +103,8 @@ held_after_fetch held fid parent node = record { nodes = map.insert held.nodes f
 -- what is held once an object was dropped
 abbrev pub held_after_drop : Held → Fid → Held
 held_after_drop held fid = record { nodes = map.remove held.nodes fid; parents = map.remove held.parents fid }
+
+-- what is held once objects were dropped in turn
+abbrev pub held_after_drops : Held → List Fid → Held
+held_after_drops held [] = held
+held_after_drops held (fid ∷ fids) = held_after_drops (held_after_drop held fid) fids

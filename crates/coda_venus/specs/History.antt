@@ -14,7 +14,7 @@ use Rattle.coda_cml.specs.declared.segment.Segment.{Segment}
 use Rattle.coda_cml.specs.declared.frozen.Frozen.{Frozen}
 use Rattle.coda_journal.specs.declared.header.Header.{Header}
 use Rattle.coda_plain.specs.Histories.{left_by, DoFollow}
-use Rattle.coda_record.specs.Entries.{client_payload}
+use Rattle.coda_record.specs.Entries.{client_entry, client_payload}
 use Rattle.coda_record.specs.Form.{four}
 use Rattle.coda_record.specs.Spelling.{HasSpelling}
 use Rattle.coda_record.specs.declared.entry.ClientEntry.{ClientEntry}
@@ -34,6 +34,11 @@ payload_of payload = ((client_payload four).piece payload).bytes
 
 abbrev pub payloads_of : List Payload → List (List ℕ)
 payloads_of history = map payload_of history
+
+-- the bytes of entries, one behind the other
+abbrev pub bytes_of_entries : List ClientEntry → List ℕ
+bytes_of_entries [] = []
+bytes_of_entries (entry ∷ entries) = ((client_entry four).piece entry).bytes ++ bytes_of_entries entries
 
 -- the state that a history leaves on the disk of a client with this header
 abbrev pub state_of : Header → List Payload → ClientState

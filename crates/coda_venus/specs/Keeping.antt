@@ -29,7 +29,7 @@ use Rattle.coda_cml.specs.Steps.{settle_refusal}
 use Rattle.coda_venus.specs.Held.{Held}
 use Rattle.coda_venus.specs.Looking.{then_find, resolve}
 use Rattle.coda_venus.specs.Ask.{Asked, too_big, object_of}
-use Rattle.coda_venus.specs.Accepting.{sight_of, accept}
+use Rattle.coda_venus.specs.Accepting.{Sight, sight_of, accept}
 use Rattle.coda_venus.specs.Code.{has_room, is_full}
 use Rattle.coda_venus.specs.State.{ClientVolume, ClientState}
 use Rattle.coda_venus.specs.History.{Payload, payload_of, payloads_of, last_to_go}
@@ -100,6 +100,15 @@ operation_unless None c time volume ask = then_find (accept (sight_of c volume) 
 
 abbrev pub operation : ClientState → ℕ → ℕ → Asked → Result Record Refused
 operation c time volume ask = operation_unless (too_big ask) c time volume ask
+
+-- The next record of a volume that an ask becomes at a time over what is seen, or the first reason why it becomes none: its content is too
+-- long; acceptance. Whether there is room for it isn't asked.
+abbrev pub record_for_unless : Option ℕ → Sight → ClientVolume → ℕ → ℕ → Asked → Result Record Refused
+record_for_unless (Some size) s v time volume ask = Err (TooBig size)
+record_for_unless None s v time volume ask = then_find (accept s volume ask) (λ op. Ok (record_of v time op))
+
+abbrev pub record_for : Sight → ClientVolume → ℕ → ℕ → Asked → Result Record Refused
+record_for s v time volume ask = record_for_unless (too_big ask) s v time volume ask
 
 -- the operation that an ask becomes
 abbrev pub operate_due : ClientState → ℕ → ℕ → Asked → Due

@@ -15,3 +15,7 @@ pub mod Keeping
 pub mod Laws
 pub mod Recovering
 pub mod Entering
+pub mod Serving
+pub mod Rounds
+pub mod Caching
+pub mod Making

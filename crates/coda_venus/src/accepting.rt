@@ -1,4 +1,4 @@
-// Acceptance: what a client is asked to do becomes an operation on what it holds, or is refused.
+// Acceptance: what a client is asked to do becomes an operation on what it may serve of its cache, or is refused.
 ghost use Rattle.std.specs.Prelude.{◌≡◌};
 
 use crate::ask::{Ask, ending};
@@ -22,21 +22,21 @@ impl Client {
     ghost use Rattle.coda_venus.specs.Looking.{then_find, resolve};
     ghost use Rattle.coda_venus.specs.Looking.{OrMemory};
     ghost use Rattle.coda_venus.specs.Accepting.{new_fid, new_under, new_place, at_root, accept_creation, store_at, setattr_at, remove_at, rmdir_at, spot, bound_at, place, is_dir_at, with_version, replaced_by, move_to, rename_to, rename_root, accept_rename, accept_remove, accept_rmdir, accept};
-    ghost use Rattle.coda_venus.specs.Code.{held_of, sight};
+    ghost use Rattle.coda_venus.specs.Caching.{served_nodes, served_held, served_sight};
 
-    // What is refused of the root, where that is held.
-    fn at_root(&self, volume: u32, refusal: Refused) -> Result<Op, Refused>
-        ensures { result ≡ at_root (sight self.now volume) volume refusal }
+    // What is refused of the root, where that may be served.
+    fn at_root(&self, emulating: bool, volume: u32, refusal: Refused) -> Result<Op, Refused>
+        ensures { result ≡ at_root (served_sight emulating self.now volume) volume refusal }
     {
-        match self.held(Fid::root(volume)) {
+        match self.held(emulating, Fid::root(volume)) {
             Ok(_) => Err(refusal),
             Err(miss) => Err(miss),
         }
     }
 
     // The fid of a new object.
-    fn new_fid(&self, volume: u32) -> Result<Fid, Refused>
-        ensures { result ≡ new_fid (sight self.now volume) volume }
+    fn new_fid(&self, emulating: bool, volume: u32) -> Result<Fid, Refused>
+        ensures { result ≡ new_fid (served_sight emulating self.now volume) volume }
     {
         let creations = self.creations(volume);
         if creations >= MOST_CREATIONS {
@@ -47,7 +47,7 @@ impl Client {
             vnode: u32::from(self.number),
             uniq: creations + 1,
         };
-        if self.cache.peek(fid).is_some() {
+        if self.serve(emulating, fid).is_some() {
             Err(Refused::Exists)
         } else {
             Ok(fid)
@@ -55,14 +55,20 @@ impl Client {
     }
 
     // The fid of a new object under a name of a directory.
-    pub(crate) fn new_under(&self, volume: u32, dir: Fid, name: &Name) -> Result<Fid, Refused>
-        ensures { result ≡ new_under (sight self.now volume) volume (map.get self.now.cache.nodes dir) dir name.now }
+    pub(crate) fn new_under(
+        &self,
+        emulating: bool,
+        volume: u32,
+        dir: Fid,
+        name: &Name,
+    ) -> Result<Fid, Refused>
+        ensures { result ≡ new_under (served_sight emulating self.now volume) volume (map.get (served_nodes emulating self.now) dir) dir name.now }
     {
-        match self.cache.peek(dir) {
+        match self.serve(emulating, dir) {
             Some(node) => match &node.kind {
                 NodeKind::Dir(entries) => match entries.find(name) {
                     Some(_) => Err(Refused::Exists),
-                    None => self.new_fid(volume),
+                    None => self.new_fid(emulating, volume),
                 },
                 NodeKind::File(_) => Err(Refused::NotDir),
                 NodeKind::Link(_) => Err(Refused::NotDir),
@@ -71,22 +77,35 @@ impl Client {
         }
     }
 
-    // The directory of a new object and its fid. Where the directory isn't held, it is what is needed for the fid.
-    fn new_place(&self, volume: u32, front: &[Name], name: &Name) -> Result<(Fid, Fid), Refused>
-        ensures { result ≡ new_place (sight self.now volume) volume (front.now, name.now) }
+    // The directory of a new object and its fid. Where the directory may not be served, it is what is needed for the fid.
+    fn new_place(
+        &self,
+        emulating: bool,
+        volume: u32,
+        front: &[Name],
+        name: &Name,
+    ) -> Result<(Fid, Fid), Refused>
+        ensures { result ≡ new_place (served_sight emulating self.now volume) volume (front.now, name.now) }
     {
-        let dir = self.follow(Fid::root(volume), front)?;
-        let fid = self.new_under(volume, dir, name)?;
+        let dir = self.follow(emulating, Fid::root(volume), front)?;
+        let fid = self.new_under(emulating, volume, dir, name)?;
         Ok((dir, fid))
     }
 
-    fn accept_create(&self, volume: u32, path: &Path, mode: u16, owner: u32) -> Result<Op, Refused>
-        ensures { OrMemory result (accept_creation (sight self.now volume) volume (ending path.now) (λ dir name fid. Op.Create dir name fid mode owner)) }
+    fn accept_create(
+        &self,
+        emulating: bool,
+        volume: u32,
+        path: &Path,
+        mode: u16,
+        owner: u32,
+    ) -> Result<Op, Refused>
+        ensures { OrMemory result (accept_creation (served_sight emulating self.now volume) volume (ending path.now) (λ dir name fid. Op.Create dir name fid mode owner)) }
     {
         let Some((front, name)) = ending(path.names()) else {
-            return self.at_root(volume, Refused::Exists);
+            return self.at_root(emulating, volume, Refused::Exists);
         };
-        let (dir, fid) = self.new_place(volume, front, name)?;
+        let (dir, fid) = self.new_place(emulating, volume, front, name)?;
         let name = name.copy()?;
         Ok(Op::Create {
             dir,
@@ -97,13 +116,20 @@ impl Client {
         })
     }
 
-    fn accept_mkdir(&self, volume: u32, path: &Path, mode: u16, owner: u32) -> Result<Op, Refused>
-        ensures { OrMemory result (accept_creation (sight self.now volume) volume (ending path.now) (λ dir name fid. Op.Mkdir dir name fid mode owner)) }
+    fn accept_mkdir(
+        &self,
+        emulating: bool,
+        volume: u32,
+        path: &Path,
+        mode: u16,
+        owner: u32,
+    ) -> Result<Op, Refused>
+        ensures { OrMemory result (accept_creation (served_sight emulating self.now volume) volume (ending path.now) (λ dir name fid. Op.Mkdir dir name fid mode owner)) }
     {
         let Some((front, name)) = ending(path.names()) else {
-            return self.at_root(volume, Refused::Exists);
+            return self.at_root(emulating, volume, Refused::Exists);
         };
-        let (dir, fid) = self.new_place(volume, front, name)?;
+        let (dir, fid) = self.new_place(emulating, volume, front, name)?;
         let name = name.copy()?;
         Ok(Op::Mkdir {
             dir,
@@ -114,13 +140,19 @@ impl Client {
         })
     }
 
-    fn accept_symlink(&self, volume: u32, path: &Path, target: &Bytes) -> Result<Op, Refused>
-        ensures { OrMemory result (accept_creation (sight self.now volume) volume (ending path.now) (λ dir name fid. Op.Symlink dir name fid target.now 511 0)) }
+    fn accept_symlink(
+        &self,
+        emulating: bool,
+        volume: u32,
+        path: &Path,
+        target: &Bytes,
+    ) -> Result<Op, Refused>
+        ensures { OrMemory result (accept_creation (served_sight emulating self.now volume) volume (ending path.now) (λ dir name fid. Op.Symlink dir name fid target.now 511 0)) }
     {
         let Some((front, name)) = ending(path.names()) else {
-            return self.at_root(volume, Refused::Exists);
+            return self.at_root(emulating, volume, Refused::Exists);
         };
-        let (dir, fid) = self.new_place(volume, front, name)?;
+        let (dir, fid) = self.new_place(emulating, volume, front, name)?;
         let name = name.copy()?;
         let target = target.copy()?;
         Ok(Op::Symlink {
@@ -134,10 +166,10 @@ impl Client {
     }
 
     // A store at an object that was found.
-    fn store_at(&self, fid: Fid, content: &Bytes) -> Result<Op, Refused>
-        ensures { OrMemory result (store_at (map.get self.now.cache.nodes fid) fid content.now) }
+    fn store_at(&self, emulating: bool, fid: Fid, content: &Bytes) -> Result<Op, Refused>
+        ensures { OrMemory result (store_at (map.get (served_nodes emulating self.now) fid) fid content.now) }
     {
-        match self.cache.peek(fid) {
+        match self.serve(emulating, fid) {
             Some(node) => match &node.kind {
                 NodeKind::File(_) => Ok(Op::Store {
                     fid,
@@ -152,11 +184,11 @@ impl Client {
     }
 
     // A removal of an object that was found.
-    fn remove_at(&self, dir: Fid, name: &Name, fid: Fid) -> Result<Op, Refused>
-        ensures { OrMemory result (remove_at (map.get self.now.cache.nodes fid) dir name.now fid) }
+    fn remove_at(&self, emulating: bool, dir: Fid, name: &Name, fid: Fid) -> Result<Op, Refused>
+        ensures { OrMemory result (remove_at (map.get (served_nodes emulating self.now) fid) dir name.now fid) }
     {
         let name = name.copy()?;
-        match self.cache.peek(fid) {
+        match self.serve(emulating, fid) {
             Some(node) => match &node.kind {
                 NodeKind::Dir(_) => Err(Refused::IsDir),
                 NodeKind::File(_) => Ok(Op::Remove {
@@ -178,14 +210,21 @@ impl Client {
 
     // A removal of a directory that was found. Though it binds nothing, objects may be held below it: it may have been fetched again
     // since they were.
-    fn rmdir_at(&self, volume: u32, dir: Fid, name: &Name, fid: Fid) -> Result<Op, Refused>
-        ensures { OrMemory result (rmdir_at (sight self.now volume) (map.get self.now.cache.nodes fid) dir name.now fid) }
+    fn rmdir_at(
+        &self,
+        emulating: bool,
+        volume: u32,
+        dir: Fid,
+        name: &Name,
+        fid: Fid,
+    ) -> Result<Op, Refused>
+        ensures { OrMemory result (rmdir_at (served_sight emulating self.now volume) (map.get (served_nodes emulating self.now) fid) dir name.now fid) }
     {
         let name = name.copy()?;
-        match self.cache.peek(fid) {
+        match self.serve(emulating, fid) {
             Some(node) => match &node.kind {
                 NodeKind::Dir(entries) => {
-                    if entries.is_empty() && !self.is_dirty_below(volume, fid) {
+                    if entries.is_empty() && !self.is_dirty_below(emulating, volume, fid) {
                         Ok(Op::Rmdir {
                             dir,
                             name,
@@ -204,47 +243,58 @@ impl Client {
     }
 
     // The directory in which a path ends, and the object under its last name.
-    fn spot(&self, volume: u32, front: &[Name], name: &Name) -> Result<(Fid, Fid), Refused>
-        ensures { result ≡ spot self.now.cache.nodes volume (front.now, name.now) }
+    fn spot(
+        &self,
+        emulating: bool,
+        volume: u32,
+        front: &[Name],
+        name: &Name,
+    ) -> Result<(Fid, Fid), Refused>
+        ensures { result ≡ spot (served_nodes emulating self.now) volume (front.now, name.now) }
     {
-        let dir = self.follow(Fid::root(volume), front)?;
-        let fid = self.step(dir, name)?;
-        let there = self.held(fid)?;
+        let dir = self.follow(emulating, Fid::root(volume), front)?;
+        let fid = self.step(emulating, dir, name)?;
+        let there = self.held(emulating, fid)?;
         Ok((dir, there))
     }
 
-    fn accept_remove(&self, volume: u32, path: &Path) -> Result<Op, Refused>
-        ensures { OrMemory result (accept_remove (sight self.now volume) volume (ending path.now)) }
+    fn accept_remove(&self, emulating: bool, volume: u32, path: &Path) -> Result<Op, Refused>
+        ensures { OrMemory result (accept_remove (served_sight emulating self.now volume) volume (ending path.now)) }
     {
         let Some((front, name)) = ending(path.names()) else {
-            return self.at_root(volume, Refused::IsDir);
+            return self.at_root(emulating, volume, Refused::IsDir);
         };
-        match self.spot(volume, front, name) {
-            Ok((dir, fid)) => self.remove_at(dir, name, fid),
+        match self.spot(emulating, volume, front, name) {
+            Ok((dir, fid)) => self.remove_at(emulating, dir, name, fid),
             Err(refusal) => Err(refusal),
         }
     }
 
-    fn accept_rmdir(&self, volume: u32, path: &Path) -> Result<Op, Refused>
-        ensures { OrMemory result (accept_rmdir (sight self.now volume) volume (ending path.now)) }
+    fn accept_rmdir(&self, emulating: bool, volume: u32, path: &Path) -> Result<Op, Refused>
+        ensures { OrMemory result (accept_rmdir (served_sight emulating self.now volume) volume (ending path.now)) }
     {
         let Some((front, name)) = ending(path.names()) else {
-            return self.at_root(volume, Refused::Loop);
+            return self.at_root(emulating, volume, Refused::Loop);
         };
-        match self.spot(volume, front, name) {
-            Ok((dir, fid)) => self.rmdir_at(volume, dir, name, fid),
+        match self.spot(emulating, volume, front, name) {
+            Ok((dir, fid)) => self.rmdir_at(emulating, volume, dir, name, fid),
             Err(refusal) => Err(refusal),
         }
     }
 
-    // What a directory may bind at a name, where that is held.
-    pub(crate) fn bound_at(&self, dir: Fid, name: &Name) -> Result<Option<Fid>, Refused>
-        ensures { result ≡ bound_at self.now.cache.nodes (map.get self.now.cache.nodes dir) dir name.now }
+    // What a directory may bind at a name, where that may be served.
+    pub(crate) fn bound_at(
+        &self,
+        emulating: bool,
+        dir: Fid,
+        name: &Name,
+    ) -> Result<Option<Fid>, Refused>
+        ensures { result ≡ bound_at (served_nodes emulating self.now) (map.get (served_nodes emulating self.now) dir) dir name.now }
     {
-        match self.cache.peek(dir) {
+        match self.serve(emulating, dir) {
             Some(node) => match &node.kind {
                 NodeKind::Dir(entries) => match entries.find(name) {
-                    Some(fid) => match self.held(fid) {
+                    Some(fid) => match self.held(emulating, fid) {
                         Ok(there) => Ok(Some(there)),
                         Err(miss) => Err(miss),
                     },
@@ -258,19 +308,25 @@ impl Client {
     }
 
     // The place of a new name: its directory and what stands there.
-    fn place(&self, volume: u32, front: &[Name], name: &Name) -> Result<(Fid, Option<Fid>), Refused>
-        ensures { result ≡ place self.now.cache.nodes volume (front.now, name.now) }
+    fn place(
+        &self,
+        emulating: bool,
+        volume: u32,
+        front: &[Name],
+        name: &Name,
+    ) -> Result<(Fid, Option<Fid>), Refused>
+        ensures { result ≡ place (served_nodes emulating self.now) volume (front.now, name.now) }
     {
-        let dir = self.resolve(Fid::root(volume), front)?;
-        let bound = self.bound_at(dir, name)?;
+        let dir = self.resolve(emulating, Fid::root(volume), front)?;
+        let bound = self.bound_at(emulating, dir, name)?;
         Ok((dir, bound))
     }
 
-    // Whether a directory is held there.
-    fn is_dir(&self, fid: Fid) -> bool
-        ensures { result ≡ is_dir_at (map.get self.now.cache.nodes fid) }
+    // Whether a directory stands there that may be served.
+    fn is_dir(&self, emulating: bool, fid: Fid) -> bool
+        ensures { result ≡ is_dir_at (map.get (served_nodes emulating self.now) fid) }
     {
-        match self.cache.peek(fid) {
+        match self.serve(emulating, fid) {
             Some(node) => match &node.kind {
                 NodeKind::Dir(_) => true,
                 NodeKind::File(_) => false,
@@ -281,10 +337,10 @@ impl Client {
     }
 
     // An object that is to be replaced, with its version.
-    fn with_version(&self, old: Fid) -> Result<Option<Over>, Refused>
-        ensures { result ≡ with_version (map.get self.now.cache.nodes old) old }
+    fn with_version(&self, emulating: bool, old: Fid) -> Result<Option<Over>, Refused>
+        ensures { result ≡ with_version (map.get (served_nodes emulating self.now) old) old }
     {
-        match self.cache.peek(old) {
+        match self.serve(emulating, old) {
             Some(node) => Ok(Some(Over {
                 fid: old,
                 pre: node.sid,
@@ -294,16 +350,21 @@ impl Client {
     }
 
     // What a rename of an object replaces.
-    pub(crate) fn replaced_by(&self, fid: Fid, bound: Option<Fid>) -> Result<Option<Over>, Refused>
-        ensures { result ≡ replaced_by self.now.cache.nodes fid bound }
+    pub(crate) fn replaced_by(
+        &self,
+        emulating: bool,
+        fid: Fid,
+        bound: Option<Fid>,
+    ) -> Result<Option<Over>, Refused>
+        ensures { result ≡ replaced_by (served_nodes emulating self.now) fid bound }
     {
         match bound {
             None => Ok(None),
             Some(old) => {
-                if old == fid || (self.is_dir(fid) || self.is_dir(old)) {
+                if old == fid || (self.is_dir(emulating, fid) || self.is_dir(emulating, old)) {
                     Err(Refused::Exists)
                 } else {
-                    self.with_version(old)
+                    self.with_version(emulating, old)
                 }
             }
         }
@@ -312,6 +373,7 @@ impl Client {
     // A rename of an object to a place that was found.
     fn move_to(
         &self,
+        emulating: bool,
         from_dir: Fid,
         from: &Name,
         fid: Fid,
@@ -319,12 +381,12 @@ impl Client {
         to_dir: Fid,
         bound: Option<Fid>,
     ) -> Result<Op, Refused>
-        ensures { OrMemory result (move_to (held_of self.now) from_dir from.now fid to.now (to_dir, bound)) }
+        ensures { OrMemory result (move_to (served_held emulating self.now) from_dir from.now fid to.now (to_dir, bound)) }
     {
         if self.is_below(to_dir, fid) {
             return Err(Refused::Loop);
         }
-        let over = self.replaced_by(fid, bound)?;
+        let over = self.replaced_by(emulating, fid, bound)?;
         let from = from.copy()?;
         let to = to.copy()?;
         Ok(Op::Rename {
@@ -340,63 +402,82 @@ impl Client {
     // A rename of an object to a new path.
     fn rename_to(
         &self,
+        emulating: bool,
         volume: u32,
         from_dir: Fid,
         from: &Name,
         fid: Fid,
         to: &Path,
     ) -> Result<Op, Refused>
-        ensures { OrMemory result (rename_to (sight self.now volume) volume from_dir from.now fid (ending to.now)) }
+        ensures { OrMemory result (rename_to (served_sight emulating self.now volume) volume from_dir from.now fid (ending to.now)) }
     {
         let Some((front, name)) = ending(to.names()) else {
-            return self.at_root(volume, Refused::Exists);
+            return self.at_root(emulating, volume, Refused::Exists);
         };
-        match self.place(volume, front, name) {
-            Ok((dir, bound)) => self.move_to(from_dir, from, fid, name, dir, bound),
+        match self.place(emulating, volume, front, name) {
+            Ok((dir, bound)) => self.move_to(emulating, from_dir, from, fid, name, dir, bound),
             Err(refusal) => Err(refusal),
         }
     }
 
     // The root is not renamed.
-    fn rename_root(&self, volume: u32, to: &Path) -> Result<Op, Refused>
-        ensures { result ≡ rename_root (sight self.now volume) volume (ending to.now) }
+    fn rename_root(&self, emulating: bool, volume: u32, to: &Path) -> Result<Op, Refused>
+        ensures { result ≡ rename_root (served_sight emulating self.now volume) volume (ending to.now) }
     {
         match ending(to.names()) {
-            Some((front, name)) => match self.place(volume, front, name) {
+            Some((front, name)) => match self.place(emulating, volume, front, name) {
                 Ok(_) => Err(Refused::Loop),
                 Err(refusal) => Err(refusal),
             },
-            None => self.at_root(volume, Refused::Loop),
+            None => self.at_root(emulating, volume, Refused::Loop),
         }
     }
 
-    fn accept_rename(&self, volume: u32, from: &Path, to: &Path) -> Result<Op, Refused>
-        ensures { OrMemory result (accept_rename (sight self.now volume) volume (ending from.now) (ending to.now)) }
+    fn accept_rename(
+        &self,
+        emulating: bool,
+        volume: u32,
+        from: &Path,
+        to: &Path,
+    ) -> Result<Op, Refused>
+        ensures { OrMemory result (accept_rename (served_sight emulating self.now volume) volume (ending from.now) (ending to.now)) }
     {
         match ending(from.names()) {
-            Some((front, name)) => match self.spot(volume, front, name) {
-                Ok((dir, fid)) => self.rename_to(volume, dir, name, fid, to),
+            Some((front, name)) => match self.spot(emulating, volume, front, name) {
+                Ok((dir, fid)) => self.rename_to(emulating, volume, dir, name, fid, to),
                 Err(refusal) => Err(refusal),
             },
-            None => match self.held(Fid::root(volume)) {
-                Ok(_) => self.rename_root(volume, to),
+            None => match self.held(emulating, Fid::root(volume)) {
+                Ok(_) => self.rename_root(emulating, volume, to),
                 Err(miss) => Err(miss),
             },
         }
     }
 
-    fn accept_store(&self, volume: u32, path: &Path, content: &Bytes) -> Result<Op, Refused>
-        ensures { OrMemory result (then_find (resolve self.now.cache.nodes (root_of volume) path.now) (λ fid. store_at (map.get self.now.cache.nodes fid) fid content.now)) }
+    fn accept_store(
+        &self,
+        emulating: bool,
+        volume: u32,
+        path: &Path,
+        content: &Bytes,
+    ) -> Result<Op, Refused>
+        ensures { OrMemory result (then_find (resolve (served_nodes emulating self.now) (root_of volume) path.now) (λ fid. store_at (map.get (served_nodes emulating self.now) fid) fid content.now)) }
     {
-        let fid = self.resolve(Fid::root(volume), path.names())?;
-        self.store_at(fid, content)
+        let fid = self.resolve(emulating, Fid::root(volume), path.names())?;
+        self.store_at(emulating, fid, content)
     }
 
-    fn accept_setattr(&self, volume: u32, path: &Path, attrs: Attrs) -> Result<Op, Refused>
-        ensures { result ≡ then_find (resolve self.now.cache.nodes (root_of volume) path.now) (λ fid. setattr_at (map.get self.now.cache.nodes fid) fid attrs) }
+    fn accept_setattr(
+        &self,
+        emulating: bool,
+        volume: u32,
+        path: &Path,
+        attrs: Attrs,
+    ) -> Result<Op, Refused>
+        ensures { result ≡ then_find (resolve (served_nodes emulating self.now) (root_of volume) path.now) (λ fid. setattr_at (map.get (served_nodes emulating self.now) fid) fid attrs) }
     {
-        let fid = self.resolve(Fid::root(volume), path.names())?;
-        match self.cache.peek(fid) {
+        let fid = self.resolve(emulating, Fid::root(volume), path.names())?;
+        match self.serve(emulating, fid) {
             Some(node) => Ok(Op::Setattr {
                 fid,
                 pre: node.sid,
@@ -406,20 +487,24 @@ impl Client {
         }
     }
 
-    /// What the client accepts an ask as, over what it holds.
+    /// What the client accepts an ask as, over what it may serve.
     #[tactic(auto, unfolding(crate::specs::Accepting::accept))]
-    pub fn accept(&self, volume: u32, ask: &Ask) -> Result<Op, Refused>
-        ensures { OrMemory result (accept (sight self.now volume) volume (asked ask.now)) }
+    pub fn accept(&self, emulating: bool, volume: u32, ask: &Ask) -> Result<Op, Refused>
+        ensures { OrMemory result (accept (served_sight emulating self.now volume) volume (asked ask.now)) }
     {
         match ask {
-            Ask::Create { path, mode, owner } => self.accept_create(volume, path, *mode, *owner),
-            Ask::Mkdir { path, mode, owner } => self.accept_mkdir(volume, path, *mode, *owner),
-            Ask::Symlink { path, target } => self.accept_symlink(volume, path, target),
-            Ask::Store { path, content } => self.accept_store(volume, path, content),
-            Ask::Setattr { path, attrs } => self.accept_setattr(volume, path, *attrs),
-            Ask::Remove { path } => self.accept_remove(volume, path),
-            Ask::Rmdir { path } => self.accept_rmdir(volume, path),
-            Ask::Rename { from, to } => self.accept_rename(volume, from, to),
+            Ask::Create { path, mode, owner } => self.accept_create(
+                emulating, volume, path, *mode, *owner,
+            ),
+            Ask::Mkdir { path, mode, owner } => self.accept_mkdir(
+                emulating, volume, path, *mode, *owner,
+            ),
+            Ask::Symlink { path, target } => self.accept_symlink(emulating, volume, path, target),
+            Ask::Store { path, content } => self.accept_store(emulating, volume, path, content),
+            Ask::Setattr { path, attrs } => self.accept_setattr(emulating, volume, path, *attrs),
+            Ask::Remove { path } => self.accept_remove(emulating, volume, path),
+            Ask::Rmdir { path } => self.accept_rmdir(emulating, volume, path),
+            Ask::Rename { from, to } => self.accept_rename(emulating, volume, from, to),
         }
     }
 }

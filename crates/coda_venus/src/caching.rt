@@ -21,7 +21,7 @@ impl Client {
 
     // Whether a record of the log of its volume mentions an object. It costs the records of the chunk, and one search
     // among what those of the tail mention (`mentions` of `Log`).
-    fn is_dirty(&self, fid: Fid) -> bool
+    pub(crate) fn is_dirty(&self, fid: Fid) -> bool
         ensures { result ≡ is_mentioned (volume_in (tree.get nat_cmp self.now.logs fid.volume)) fid }
     {
         match self.logs.get(&fid.volume) {

@@ -82,7 +82,7 @@ impl<D: Disk> Venus<D> {
         if self.down {
             return Err(Refused::Down);
         }
-        self.client.read(volume, path)
+        self.client.read(true, volume, path)
     }
 
     /// The directory at a path, over what is cached.
@@ -98,7 +98,7 @@ impl<D: Disk> Venus<D> {
         if self.down {
             return Err(Refused::Down);
         }
-        self.client.list(volume, path)
+        self.client.list(true, volume, path)
     }
 
     // Adds a payload to the journal, which has room for it. After a fault the client is down.

@@ -25,7 +25,7 @@ impl Client {
         ensures yes { result ≡ true → new_under (sight self.now volume) volume (map.get self.now.cache.nodes dir) dir name.now ≡ Ok fid }
         ensures no { new_under (sight self.now volume) volume (map.get self.now.cache.nodes dir) dir name.now ≡ Ok fid → result ≡ true }
     {
-        self.new_under(volume, dir, name) == Ok(fid)
+        self.new_under(true, volume, dir, name) == Ok(fid)
     }
 
     // Whether a file that is held may get a content, and had this version.
@@ -62,7 +62,7 @@ impl Client {
         ensures yes { result ≡ true → (step_from (map.get self.now.cache.nodes dir) dir name.now ≡ Ok fid) × (remove_at (map.get self.now.cache.nodes fid) dir name.now fid ≡ Ok (Op.Remove dir name.now fid pre)) }
         ensures no { step_from (map.get self.now.cache.nodes dir) dir name.now ≡ Ok fid → remove_at (map.get self.now.cache.nodes fid) dir name.now fid ≡ Ok (Op.Remove dir name.now fid pre) → result ≡ true }
     {
-        if self.step(dir, name) != Ok(fid) {
+        if self.step(true, dir, name) != Ok(fid) {
             return false;
         }
         match self.cache.peek(fid) {
@@ -80,13 +80,13 @@ impl Client {
         ensures yes { result ≡ true → (step_from (map.get self.now.cache.nodes dir) dir name.now ≡ Ok fid) × (rmdir_at (sight self.now volume) (map.get self.now.cache.nodes fid) dir name.now fid ≡ Ok (Op.Rmdir dir name.now fid pre)) }
         ensures no { step_from (map.get self.now.cache.nodes dir) dir name.now ≡ Ok fid → rmdir_at (sight self.now volume) (map.get self.now.cache.nodes fid) dir name.now fid ≡ Ok (Op.Rmdir dir name.now fid pre) → result ≡ true }
     {
-        if self.step(dir, name) != Ok(fid) {
+        if self.step(true, dir, name) != Ok(fid) {
             return false;
         }
         match self.cache.peek(fid) {
             Some(node) => match &node.kind {
                 NodeKind::Dir(entries) => {
-                    if entries.is_empty() && !self.is_dirty_below(volume, fid) {
+                    if entries.is_empty() && !self.is_dirty_below(true, volume, fid) {
                         node.sid == pre
                     } else {
                         false
@@ -112,11 +112,13 @@ impl Client {
         ensures yes { result ≡ true → MovesThere (held_of self.now) from_dir from.now to_dir to.now fid over }
         ensures no { MovesThere (held_of self.now) from_dir from.now to_dir to.now fid over → result ≡ true }
     {
-        if self.step(from_dir, from) != Ok(fid) || self.cache.peek(fid).is_none() {
+        if self.step(true, from_dir, from) != Ok(fid) || self.cache.peek(fid).is_none() {
             return false;
         }
-        match self.bound_at(to_dir, to) {
-            Ok(bound) => { !self.is_below(to_dir, fid) && self.replaced_by(fid, bound) == Ok(over) }
+        match self.bound_at(true, to_dir, to) {
+            Ok(bound) => {
+                !self.is_below(to_dir, fid) && self.replaced_by(true, fid, bound) == Ok(over)
+            }
             Err(_) => false,
         }
     }

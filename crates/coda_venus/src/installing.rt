@@ -41,14 +41,14 @@ impl Client {
 }
 
 // The same of a fid that is there.
-fn fid_spelled(fid: Fid)
+pub(crate) fn fid_spelled(fid: Fid)
     ensures { HasSpelling a_fid fid }
 {
     has_spelling(fid.volume, fid.vnode, fid.uniq);
 }
 
 // The same of one that may be there.
-fn parent_spelled(parent: Option<Fid>)
+pub(crate) fn parent_spelled(parent: Option<Fid>)
     ensures { HasSpelling (optional a_fid) parent }
 {
     if let Some(fid) = parent {

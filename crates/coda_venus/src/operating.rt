@@ -2,6 +2,7 @@
 ghost use Rattle.std.specs.Prelude.{◌≡◌, ◌<◌, ◌≤◌, None, IsSome, IfOk, IfErr, OnOk, OnErr};
 ghost use Rattle.std.specs.BTreeMap as tree;
 ghost use Rattle.std.specs.Ordering.{nat_cmp};
+ghost use Rattle.coda_cache.specs.Steps.{mutated};
 ghost use Rattle.coda_record.specs.declared.entry.ClientEntry.TheVariants.{Op as OpEntry};
 ghost use Rattle.coda_plain.specs.Deeds.{Operated};
 ghost use Rattle.coda_spelling.specs.Spelled.{IsSpelled, AreSpelled};
@@ -58,6 +59,8 @@ impl Client {
         requires perform { MayPerform (volume_in (tree.get nat_cmp self.old.logs volume)) rec }
         ensures entered { (c : ClientState) → IsClient c self.old → OnOk result (IsClient (client_after c (OpEntry volume rec)) self.new) }
         ensures err { (c : ClientState) → IsClient c self.old → OnErr result (IsClient c self.new) }
+        ensures cache { OnOk result (self.new.cache ≡ mutated self.old.cache self.old.number rec) }
+        ensures cache_err { OnErr result (self.new.cache ≡ self.old.cache) }
         ensures nodes { OnOk result (self.new.cache.nodes ≡ (held_after_operation (held_of self.old) self.old.number rec).nodes) }
         ensures nodes_err { OnErr result (self.new.cache.nodes ≡ self.old.cache.nodes) }
         ensures number { self.new.number ≡ self.old.number }
@@ -105,7 +108,7 @@ impl Client {
         if let Some(size) = too_big(ask) {
             return Err(Refused::TooBig(size));
         }
-        match self.accept(volume, ask) {
+        match self.accept(true, volume, ask) {
             Ok(op) => self.next_record(volume, time, op),
             Err(refusal) => Err(refusal),
         }

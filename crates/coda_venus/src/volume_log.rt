@@ -61,6 +61,18 @@ impl VolumeLog {
         self.log.last() >= MOST_OPERATIONS
     }
 
+    /// The record that an operation becomes at a time, the next on the volume. Whether there is room for it isn't asked.
+    pub fn record_of(&self, time: u64, op: Op) -> Record
+        ensures record { self.now.log.last ≤ 4294967295 → result ≡ record_of (volume_in (Some self.now)) time op }
+        ensures parts { (1 ≤ result.number) × (result.time ≡ time) × (result.op ≡ op) }
+    {
+        Record {
+            number: self.log.last().saturating_add(1),
+            time,
+            op,
+        }
+    }
+
     /// The record that an operation becomes at a time, the next on the volume.
     ///
     /// # Errors
@@ -71,11 +83,7 @@ impl VolumeLog {
         ensures may { IfOk result (λ rec. IsNextOf self.now.log time op rec) }
         ensures own { IfErr result IsOwn }
     {
-        let rec = Record {
-            number: self.log.last().saturating_add(1),
-            time,
-            op,
-        };
+        let rec = self.record_of(time, op);
         if !self.has_room(&rec) {
             return Err(Refused::LogFull);
         }

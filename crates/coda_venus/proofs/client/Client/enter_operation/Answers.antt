@@ -1,9 +1,10 @@
-use Rattle.std.proofs.Common.{ap, sym, subst, ◌∙◌}
+use Rattle.std.proofs.Common.{◌≡◌, ap, sym, subst, ◌∙◌}
 use Rattle.coda_cache.specs.State.{CacheState}
 use Rattle.coda_venus.specs.Code.{IsClient, held_in}
 use Rattle.coda_venus.specs.Held.{held_after_operation}
 use Rattle.coda_venus.specs.Operating.{MayBegin}
-use Rattle.coda_cache.specs.Operating.{MayEnd}
+use Rattle.coda_cache.specs.Operating.{MayEnd, finished, undone}
+use Rattle.coda_cache.specs.Steps.{mutated}
 use Rattle.coda_venus.proofs.SendableLogs.{state_now, is_now}
 use Rattle.coda_venus.proofs.Entered.{on_err, with_cache, between, is_between, entered, returned, nodes_entered}
 use Rattle.coda_venus.proofs.client.Client.enter_operation.Goals as goal
@@ -59,3 +60,15 @@ returns-in-Err-clause-err c = λ s is.
     returned s c.args.volume c.args.rec made pushed began c.undo.new.self c.in_ok-begun.begun at c.agree.ensures may has same
     (c.in-Err.ensures.err (between s c.args.volume c.args.rec made pushed began c.undo.new.self c.in_ok-begun.begun at c.agree.ensures may has same) (is_between s c.args.volume c.args.rec made pushed began c.undo.new.self c.in_ok-begun.begun at c.agree.ensures may has same))
     c.undo.ensures
+
+pub returns-in_err-begun-clause-cache_err : goal.returns-in_err-begun-clause-cache_err
+returns-in_err-begun-clause-cache_err c = on_err c.from_residual-in_err-begun.result (c.begin.new.self ≡ c.args.self.now.cache) (c.in_err-begun.ensures.err ∙ c.make_log.ensures.kept.1)
+
+pub returns-in-Ok-clause-cache : goal.returns-in-Ok-clause-cache
+returns-in-Ok-clause-cache c =
+    let kept = c.make_log.ensures.kept in
+    c.finish.ensures ∙ ap (λ (k : CacheState). finished k c.in_ok-begun.begun) c.in-Ok.ensures.kept.1 ∙ c.in_ok-begun.ensures.begun.finishes ∙ (λ i. mutated (kept.1 i) (kept.0 i) c.args.rec)
+
+pub returns-in-Err-clause-cache_err : goal.returns-in-Err-clause-cache_err
+returns-in-Err-clause-cache_err c =
+    c.undo.ensures ∙ ap (λ (k : CacheState). undone k c.in_ok-begun.begun) c.in-Err.ensures.kept.1 ∙ c.in_ok-begun.ensures.begun.undoes ∙ c.make_log.ensures.kept.1

@@ -16,4 +16,4 @@ returns-clause-entered c = λ s is.
     let put = put_in old.cache c.args.fid c.args.parent c.args.node None in
     kept_ok c.put.result (c.put.new.self ≡ put) (IsClient (client_after s (Fetched c.args.fid c.args.parent c.args.node)) (record old { cache = c.put.new.self })) c.put.ensures.ok
     (λ same. with_cache s old c.put.new.self (held_after_fetch s.held c.args.fid c.args.parent c.args.node) is (ap (λ (k : CacheState). k.size) same)
-    ((λ i. held_after_fetch (is.held i) c.args.fid c.args.parent c.args.node) ∙ sym (fetch_held old.cache c.args.fid c.args.parent c.args.node c.agree.ensures c.requires) ∙ ap held_in (sym same)))
+    ((λ i. held_after_fetch (is.held i) c.args.fid c.args.parent c.args.node) ∙ sym (fetch_held old.cache c.args.fid c.args.parent c.args.node None c.agree.ensures c.requires) ∙ ap held_in (sym same)))
