@@ -22,7 +22,7 @@ use Rattle.coda_venus.specs.Accepting.{Sight}
 use Rattle.coda_venus.proofs.Accepted.{Relies}
 use Rattle.coda_venus.specs.Held.{held_after_drop}
 use Rattle.coda_venus.specs.History.{IsParent}
-use Rattle.coda_histories.specs.Forests.{IsForest, AreUnderDirs}
+use Rattle.coda_histories.specs.Forests.{IsForest, ParentsAreDirs}
 use Rattle.coda_histories.proofs.Forests.{IsBeside, stays_above, may_be_dir, without_was}
 use Rattle.coda_histories.proofs.Ways.{some_fid, get_left, left_was, stays_apart}
 
@@ -41,7 +41,7 @@ dir_fetched m fid node d keeps is = elim (fid_cases d fid) [
   | inr other ↦ subst IsDirNode (sym (get_else fids_total exact_fids m fid node d other)) is
 ]
 
-pub under_fetched : (h : Held) (fid : Fid) (parent : Option Fid) (node : Node) → IsParent h fid parent → (IsDirAt h.nodes fid → IsDir node.kind) → AreUnderDirs h → AreUnderDirs (held_after_fetch h fid parent node)
+pub under_fetched : (h : Held) (fid : Fid) (parent : Option Fid) (node : Node) → IsParent h fid parent → (IsDirAt h.nodes fid → IsDir node.kind) → ParentsAreDirs h → ParentsAreDirs (held_after_fetch h fid parent node)
 under_fetched h fid None node of keeps under = λ f p is. dir_fetched h.nodes fid node p keeps (under f p is)
 under_fetched h fid (Some dir) node of keeps under = λ f p is. elim (put_was h.parents fid dir f p is) [
   | inl old ↦ dir_fetched h.nodes fid node p keeps (under f p old)
@@ -52,7 +52,7 @@ under_fetched h fid (Some dir) node of keeps under = λ f p is. elim (put_was h.
 ]
 
 -- an object that is nobody's parent is dropped
-pub under_dropped : (h : Held) (fid : Fid) → ((f : Fid) → map.get h.parents f ≢ Some fid) → AreUnderDirs h → AreUnderDirs (held_after_drop h fid)
+pub under_dropped : (h : Held) (fid : Fid) → ((f : Fid) → map.get h.parents f ≢ Some fid) → ParentsAreDirs h → ParentsAreDirs (held_after_drop h fid)
 under_dropped h fid childless under = λ f p is. (
     let was = without_was h.parents fid f p is in
     let other : p ≢ fid = λ same. childless f (was.1 ∙ ap Some same) in
@@ -129,7 +129,7 @@ parents_was s volume (Rename from_dir from to_dir to fid (Some over)) f p r besi
 dir_left : (m : Nodes) (test : Fid → Bool) (p : Fid) → test p ≡ true → IsDirAt m p → IsDirAt (map.retain_keys m test) p
 dir_left m test p passes is = subst IsDirNode (sym (get_left m test p ∙ ap (λ b. cond b (map.get m p) None) passes)) is
 
-module _ (s : Sight) (volume client : ℕ) (rec : Record) (relies : Relies s volume rec.op) (beside : IsBeside s.held.parents rec.op) (forest : IsForest s.held) (under : AreUnderDirs s.held) where
+module _ (s : Sight) (volume client : ℕ) (rec : Record) (relies : Relies s volume rec.op) (beside : IsBeside s.held.parents rec.op) (forest : IsForest s.held) (under : ParentsAreDirs s.held) where
   abbrev behind : Held
   behind = record { nodes = applied s.held.nodes client rec; parents = parents_after s.held.parents rec.op }
 
@@ -144,7 +144,7 @@ module _ (s : Sight) (volume client : ℕ) (rec : Record) (relies : Relies s vol
     | inr anew ↦ anew.1 gone takes
   ]
 
-  under_without : (o : Option Fid) → taken_out rec.op ≡ o → AreUnderDirs (held_without o s.held.parents behind)
+  under_without : (o : Option Fid) → taken_out rec.op ≡ o → ParentsAreDirs (held_without o s.held.parents behind)
   under_without None takes = λ f p is. dir_operation s volume client rec p relies (λ gone same. absurd (none-some gone (sym takes ∙ same))) (was_dir f p is)
   under_without (Some gone) takes = λ f p is. (
       let at = left_was behind.parents (stays s.held.parents gone) f p is in
@@ -153,5 +153,5 @@ module _ (s : Sight) (volume client : ℕ) (rec : Record) (relies : Relies s vol
       dir_left behind.nodes (stays s.held.parents gone) p here (dir_operation s volume client rec p relies (λ g same. subst (λ x. p ≢ x) (some_fid gone g (sym takes ∙ same)) other) (was_dir f p at.1)))
 
   -- the client's own operation
-  pub under_operation : AreUnderDirs (held_after_operation s.held client rec)
+  pub under_operation : ParentsAreDirs (held_after_operation s.held client rec)
   under_operation = under_without (taken_out rec.op) refl

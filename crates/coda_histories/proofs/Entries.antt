@@ -15,14 +15,14 @@ use Rattle.coda_venus.specs.Held.{Parents}
 use Rattle.coda_venus.specs.History.{Payload, MayEnter, MayEnterAll, MayFollow, IsHistory, state_of}
 use Rattle.coda_venus.specs.State.{ClientState, new_client, client_after, client_after_all}
 use Rattle.coda_venus.proofs.Accepted.{accepted_relies}
-use Rattle.coda_histories.specs.Forests.{IsForest, AreUnderDirs, KeepsKinds, KeepsKindsIn, KeepsKindsThroughout, ReplacesNothing, IsNoReplacement}
+use Rattle.coda_histories.specs.Forests.{IsForest, ParentsAreDirs, KeepsKinds, KeepsKindsIn, KeepsKindsThroughout, ReplacesNothing, IsNoReplacement}
 use Rattle.coda_histories.proofs.Apart.{accepted_apart}
 use Rattle.coda_histories.proofs.Directories.{under_fetched, under_dropped, under_operation}
 use Rattle.coda_histories.proofs.Forests.{IsBeside, forest_none, forest_fetched, forest_dropped, forest_operation, beside_dirs}
 
 -- what is cached is a forest below directories
 abbrev IsGrown : ClientState → Type 0
-IsGrown c = IsForest c.held × AreUnderDirs c.held
+IsGrown c = IsForest c.held × ParentsAreDirs c.held
 
 pub made : (number blocks : ℕ) → IsGrown (new_client number blocks)
 made number blocks = (forest_none, λ f p is. absurd (none-some p (sym (map.get-empty fid_cmp f) ∙ is)))

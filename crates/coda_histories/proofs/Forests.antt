@@ -26,7 +26,7 @@ use Rattle.coda_venus.specs.Accepting.{Sight, is_dir_kind, is_dir_at}
 use Rattle.coda_venus.proofs.Accepted.{MayMove, Relies}
 use Rattle.coda_venus.specs.Held.{held_after_drop}
 use Rattle.coda_venus.specs.History.{IsParent, MayBeParent}
-use Rattle.coda_histories.specs.Forests.{IsForest, AreUnderDirs}
+use Rattle.coda_histories.specs.Forests.{IsForest, ParentsAreDirs}
 use Rattle.coda_histories.proofs.Apart.{IsApart}
 use Rattle.coda_histories.proofs.Ways.{some_fid, left_was, left_there, below_itself, below_alone, stays_apart, below_by}
 
@@ -67,7 +67,7 @@ forest_alike h nodes parents stay was forest = record {
 }
 
 -- all that was held is held still, and its parents are as they were
-forest_same : (h : Held) (nodes : Nodes) → ((f : Fid) → has h.nodes f ≡ true → has nodes f ≡ true) → IsForest h → IsForest (record { nodes = nodes; parents = h.parents })
+pub forest_same : (h : Held) (nodes : Nodes) → ((f : Fid) → has h.nodes f ≡ true → has nodes f ≡ true) → IsForest h → IsForest (record { nodes = nodes; parents = h.parents })
 forest_same h nodes stay forest = forest_alike h nodes h.parents stay (λ f p is. is) forest
 
 -- an object gets the parent that it has
@@ -310,7 +310,7 @@ no_dir (Some node) is file = by node.kind is file
     by (Dir entries) all e = false≢true (sym e)
 
 -- then what a rename replaces is nobody's parent, since it is no directory
-pub beside_dirs : (s : Sight) (volume : ℕ) (op : Op) → Relies s volume op → AreUnderDirs s.held → IsBeside s.held.parents op
+pub beside_dirs : (s : Sight) (volume : ℕ) (op : Op) → Relies s volume op → ParentsAreDirs s.held → IsBeside s.held.parents op
 beside_dirs s volume (Create dir name fid mode owner) r dirs = tt
 beside_dirs s volume (Mkdir dir name fid mode owner) r dirs = tt
 beside_dirs s volume (Symlink dir name fid target mode owner) r dirs = tt

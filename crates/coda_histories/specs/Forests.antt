@@ -22,8 +22,8 @@ pub record IsForest (held : Held) : Type 0 where
   pub deeper : (f p : Fid) → map.get held.parents f ≡ Some p → depth p < depth f
 
 -- each parent is a directory that is cached
-abbrev pub AreUnderDirs : Held → Type 0
-AreUnderDirs held = (f p : Fid) → map.get held.parents f ≡ Some p → IsDirAt held.nodes p
+abbrev pub ParentsAreDirs : Held → Type 0
+ParentsAreDirs held = (f p : Fid) → map.get held.parents f ≡ Some p → IsDirAt held.nodes p
 
 -- ---- which objects stay directories
 
@@ -56,11 +56,11 @@ IsNoReplacement entry = Unit {0}
 -- What a client's history leaves cached is a forest, and each parent a directory, where no fetch gives a file or a link in place of a
 -- directory that is cached.
 abbrev pub CachesAreForestsInHistories : Type 0
-CachesAreForestsInHistories = (header : Header) (history : List Payload) → IsHistory header history → KeepsKindsThroughout header history → IsForest (state_of header history).held × AreUnderDirs (state_of header history).held
+CachesAreForestsInHistories = (header : Header) (history : List Payload) → IsHistory header history → KeepsKindsThroughout header history → IsForest (state_of header history).held × ParentsAreDirs (state_of header history).held
 
 -- So it is with each entry by itself, of a client with any cache that is such a forest.
 abbrev pub EntriesKeepForests : Type 0
-EntriesKeepForests = (c : ClientState) (entry : ClientEntry) → MayEnter c entry → KeepsKinds c entry → IsForest c.held × AreUnderDirs c.held → IsForest (client_after c entry).held × AreUnderDirs (client_after c entry).held
+EntriesKeepForests = (c : ClientState) (entry : ClientEntry) → MayEnter c entry → KeepsKinds c entry → IsForest c.held × ParentsAreDirs c.held → IsForest (client_after c entry).held × ParentsAreDirs (client_after c entry).held
 
 -- Of what a fetch gives, and of parents, only a rename onto another object asks anything: its new parent could be below what it replaces.
 abbrev pub OnlyReplacingAsksDirectories : Type 0

@@ -17,10 +17,10 @@ use Rattle.coda_venus.specs.Keeping.{seen_at}
 use Rattle.coda_venus.specs.declared.refused.Refused.{Refused as Refusal}
 use Rattle.coda_venus.specs.declared.refused.Refused.TheVariants.{Need, LogFull}
 use Rattle.coda_venus.specs.declared.seen.Seen.{Seen}
-use Rattle.coda_rounds.specs.Serving.{ServingClient, served, serving, using, looked_up_for, goes_for}
-use Rattle.coda_rounds.specs.Rounds.{RefusalCause, Because, CallResult, Answered, Needs, CallTurn, Sources}
-use Rattle.coda_rounds.specs.Rounds.{called_by, performed_unless, operated_by, accepted, operating_unless, operating}
-use Rattle.coda_rounds.specs.Rounds.{shown_by, showing}
+use Rattle.coda_venus.specs.Serving.{ServingClient, served, serving, using, looked_up_for, goes_for}
+use Rattle.coda_venus.specs.Rounds.{RefusalCause, Because, CallResult, Answered, Needs, CallTurn, Sources}
+use Rattle.coda_venus.specs.Rounds.{called_by, performed_unless, operated_by, accepted, operating_unless, operating}
+use Rattle.coda_venus.specs.Rounds.{shown_by, showing}
 use Rattle.coda_rounds.specs.Laws.{RefusesItself}
 use Rattle.coda_rounds.specs.Sights.{IsLedTo}
 use Rattle.coda_rounds.specs.Entering.{IsPlaced, MayEnterSteps, IsReady, NeedsPlaced, AnswersMayBeEntered}

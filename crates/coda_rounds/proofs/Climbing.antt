@@ -6,7 +6,6 @@ use Rattle.std.specs.Option.{option_map_or}
 use Rattle.std.specs.FinMap as map
 use Rattle.coda_fid.specs.Fid.{same_fid}
 use Rattle.coda_fid.specs.declared.fid.Fid.{Fid}
-use Rattle.coda_fid.proofs.Fids.{same_fid_refl}
 use Rattle.coda_cancel.proofs.Keys.{fid_true, fid_other}
 use Rattle.coda_walk.specs.Going.{is_listed}
 use Rattle.coda_cache.specs.Laws.{IsCache}
@@ -20,10 +19,6 @@ use Rattle.coda_venus.specs.Held.{Parents, is_below}
 use Rattle.coda_rounds.proofs.Replies.{listed_behind}
 
 -- ---- by the parents
-
-below_itself : (parents : Parents) (n : ℕ) (f : Fid) → below_within parents n f f ≡ true
-below_itself parents zero f = same_fid_refl f
-below_itself parents (suc n) f = or_left (same_fid f f) _ (same_fid_refl f)
 
 below_more : (parents : Parents) (n : ℕ) (f g : Fid) → below_within parents n f g ≡ true
     → below_within parents (suc n) f g ≡ true
@@ -47,10 +42,6 @@ below_up parents (suc n) f p g at off h =
     below_more parents n p g (sym (ap (λ o. option_map_or (λ x. below_within parents n x g) o false) at)
     ∙ sym (ap (λ b. b || option_map_or (λ x. below_within parents n x g) (map.get parents f) false)
     (fid_other f g off)) ∙ h)
-
-pub is_below_itself : (parents : Parents) (f : Fid) → is_below parents f f ≡ true
-unfolding is_below
-is_below_itself parents f = below_itself parents (map.len parents) f
 
 -- the parent of what is below another object, and isn't that one, is below it
 pub parent_below : (parents : Parents) (f p g : Fid) → map.get parents f ≡ Some p → f ≢ g

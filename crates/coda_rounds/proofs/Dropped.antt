@@ -19,7 +19,7 @@ use Rattle.coda_walk.proofs.Lists.{in_filter, from_filter, any_from}
 use Rattle.coda_record.specs.declared.entry.ClientEntry.TheVariants as entry
 use Rattle.coda_venus.specs.History.{IsDirty, MayEnter, MayEnterAll}
 use Rattle.coda_venus.specs.State.{ClientState, client_after}
-use Rattle.coda_rounds.specs.Rounds.{dropping}
+use Rattle.coda_venus.specs.Rounds.{dropping}
 
 -- An item that need not stay is that of a cached node that no record mentions; and what is cached under it has an item
 -- too, under it.

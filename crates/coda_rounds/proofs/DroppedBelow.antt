@@ -17,7 +17,7 @@ use Rattle.coda_record.specs.declared.entry.ClientEntry.TheVariants as entry
 use Rattle.coda_venus.specs.Held.{Parents, is_below}
 use Rattle.coda_venus.specs.History.{IsDirty, MayEnterAll}
 use Rattle.coda_venus.specs.State.{ClientState, client_after}
-use Rattle.coda_rounds.specs.Rounds.{dropping}
+use Rattle.coda_venus.specs.Rounds.{dropping}
 use Rattle.coda_rounds.proofs.Replies.{left_of, left_node}
 
 -- ---- one drop

@@ -16,8 +16,8 @@ use Rattle.coda_cache.specs.State.{CacheState, is_cached}
 use Rattle.coda_cache.specs.Ways.{is_pinned}
 use Rattle.coda_cache.specs.Room.{item_of, items_of, new_item, item_after, items_with, kept_for, evicted_for}
 use Rattle.coda_venus.specs.History.{IsDirty, MayEnterAll}
-use Rattle.coda_rounds.specs.Serving.{ServingClient, cache_of}
-use Rattle.coda_rounds.specs.Rounds.{parent_for, dropping}
+use Rattle.coda_venus.specs.Serving.{ServingClient, cache_of}
+use Rattle.coda_venus.specs.Rounds.{parent_of_fetched, dropping}
 use Rattle.coda_rounds.specs.Entering.{IsOrderly, WhatGoesMayBeDropped}
 use Rattle.coda_rounds.proofs.Staying.{among_parts, put_fid, by_room}
 use Rattle.coda_rounds.proofs.Items.{among_of, parent_at, recent_is, recent_from, dirty_pinned, item_is}
@@ -81,7 +81,7 @@ module _ (s : ServingClient) (f : Fid) (node : Node) (keep : List Fid) (orderly 
   cache = cache_of s
 
   abbrev parent : Option Fid
-  parent = parent_for s.client.held f
+  parent = parent_of_fetched s.client.held f
 
   abbrev kept : List Fid
   kept = kept_for cache f parent keep

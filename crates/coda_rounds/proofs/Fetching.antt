@@ -22,8 +22,8 @@ use Rattle.coda_record.specs.declared.entry.ClientEntry.TheVariants as entry
 use Rattle.coda_venus.specs.Accepting.{is_mentioned}
 use Rattle.coda_venus.specs.History.{IsDirty, IsParent, MayEnter, MayEnterAll}
 use Rattle.coda_venus.specs.State.{ClientState, client_after}
-use Rattle.coda_rounds.specs.Serving.{ServingClient, cache_of}
-use Rattle.coda_rounds.specs.Rounds.{parent_by, parent_for, dropping, goes_for_fetch}
+use Rattle.coda_venus.specs.Serving.{ServingClient, cache_of}
+use Rattle.coda_venus.specs.Rounds.{parent_of_fetched_by, parent_of_fetched, dropping, goes_for_fetch}
 use Rattle.coda_rounds.specs.Laws.{IsUnserved}
 use Rattle.coda_rounds.specs.Entering.{IsOrderly, IsPlaced, FetchesMayBeEntered}
 use Rattle.coda_rounds.proofs.Entering.{what_goes_may_be_dropped}
@@ -67,13 +67,13 @@ module _ (s : ServingClient) (f : Fid) (node : Node) (keep gone : List Fid) (roo
   cache = cache_of s
 
   abbrev kept : List Fid
-  kept = kept_for cache f (parent_for s.client.held f) keep
+  kept = kept_for cache f (parent_of_fetched s.client.held f) keep
 
   kept_stays : (g : Fid) → is_listed kept g ≡ true → is_listed gone g ≡ false
   unfolding evicted_for who_goes
   kept_stays g on =
       subst (λ l. is_listed l g ≡ false) (by_room s f node keep _ _ _ gone room) (false_from_ne_true _ (λ goes.
-      let o = goer _ cache.size kept (items_with cache f (parent_for s.client.held f) (blocks_in node.kind)) g goes in
+      let o = goer _ cache.size kept (items_with cache f (parent_of_fetched s.client.held f) (blocks_in node.kind)) g goes in
       false≢true (sym (or_parts o.0.pinned (is_listed kept o.0.fid) o.3).1
       ∙ subst (λ x. is_listed kept x ≡ true) (sym o.2) on)))
 
@@ -81,15 +81,15 @@ module _ (s : ServingClient) (f : Fid) (node : Node) (keep gone : List Fid) (roo
   itself_stays = kept_stays f (or_left (same_fid f f) _ (same_fid_refl f))
 
   -- the directory under which it is put stays
-  parent_stays : (dir : Fid) → has s.client.held.nodes f ≡ false → parent_for s.client.held f ≡ Some dir
+  parent_stays : (dir : Fid) → has s.client.held.nodes f ≡ false → parent_of_fetched s.client.held f ≡ Some dir
       → has s.client.held.nodes dir ≡ true → is_listed gone dir ≡ false
   parent_stays dir absent is there =
       kept_stays dir (or_right (same_fid f dir) _ (listed_behind dir (way_from cache
-      (if is_cached cache f then parent_held cache f else parent_for s.client.held f)) (with_ancestors cache keep)
+      (if is_cached cache f then parent_held cache f else parent_of_fetched s.client.held f)) (with_ancestors cache keep)
       ∙ or_left (is_listed (way_from cache
-      (if is_cached cache f then parent_held cache f else parent_for s.client.held f)) dir)
+      (if is_cached cache f then parent_held cache f else parent_of_fetched s.client.held f)) dir)
       (is_listed (with_ancestors cache keep) dir)
-      (ap (λ b. is_listed (way_from cache (if b then parent_held cache f else parent_for s.client.held f)) dir) absent
+      (ap (λ b. is_listed (way_from cache (if b then parent_held cache f else parent_of_fetched s.client.held f)) dir) absent
       ∙ ap (λ o. is_listed (way_from cache o) dir) is ∙ self_on_way cache dir (held s dir there))))
 
   -- ---- its parent
@@ -112,7 +112,7 @@ module _ (s : ServingClient) (f : Fid) (node : Node) (keep gone : List Fid) (roo
     no_parent (Some dir) absent e = absurd (false≢true (ap is_some (sym absent) ∙ orderly.cached f dir e))
 
     bound_parent : (p : Option Fid) → map.get s.client.held.nodes f ≡ None → f ≢ root_of f.volume
-        → parent_for s.client.held f ≡ parent_of s.client.held.nodes f → parent_of s.client.held.nodes f ≡ p
+        → parent_of_fetched s.client.held f ≡ parent_of s.client.held.nodes f → parent_of s.client.held.nodes f ≡ p
         → IsParent then_left.held f p
     bound_parent None absent other is e = absurd (⊎_elim
         (λ (root : f ≡ root_of f.volume). other root)
@@ -132,19 +132,19 @@ module _ (s : ServingClient) (f : Fid) (node : Node) (keep gone : List Fid) (roo
         )
 
     parent_fits : (o : Option Node) (b : Bool) → map.get s.client.held.nodes f ≡ o
-        → same_fid f (root_of f.volume) ≡ b → IsParent then_left.held f (parent_by s.client.held f o b)
+        → same_fid f (root_of f.volume) ≡ b → IsParent then_left.held f (parent_of_fetched_by s.client.held f o b)
     parent_fits (Some n) b is root = own_parent (map.get s.client.held.parents f) (ap is_some is) refl
     parent_fits None true is root =
         (left_parents s.client gone f itself_stays ∙ no_parent _ is refl, inr (fid_true f (root_of f.volume) root))
     parent_fits None false is root =
         bound_parent (parent_of s.client.held.nodes f) is (fid_false f (root_of f.volume) root)
-        (λ i. parent_by s.client.held f (is i) (root i)) refl
+        (λ i. parent_of_fetched_by s.client.held f (is i) (root i)) refl
 
-    pub fits_left : IsParent then_left.held f (parent_for s.client.held f)
+    pub fits_left : IsParent then_left.held f (parent_of_fetched s.client.held f)
     fits_left = parent_fits (map.get s.client.held.nodes f) (same_fid f (root_of f.volume)) refl refl
 
     may_fetch : (emulating : Bool) → IsUnserved emulating s f
-        → MayEnter then_left (entry.Fetched f (parent_for s.client.held f) node)
+        → MayEnter then_left (entry.Fetched f (parent_of_fetched s.client.held f) node)
     may_fetch emulating unserved = (
       λ both. false≢true (sym (unserved.clean (was_cached s.client gone f both.0)) ∙ was_dirty s.client gone f both.1),
       fits_left,
@@ -152,6 +152,6 @@ module _ (s : ServingClient) (f : Fid) (node : Node) (keep gone : List Fid) (roo
 
 pub fetches_may_be_entered : FetchesMayBeEntered
 fetches_may_be_entered emulating s f node server keep gone orderly unserved placed room =
-    enter_behind s.client gone (entry.Fetched f (parent_for s.client.held f) node ∷ [])
+    enter_behind s.client gone (entry.Fetched f (parent_of_fetched s.client.held f) node ∷ [])
     (what_goes_may_be_dropped s f node keep gone orderly room)
     (may_fetch s f node keep gone room orderly placed emulating unserved, tt)

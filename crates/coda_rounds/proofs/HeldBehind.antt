@@ -1,11 +1,9 @@
 -- What a client holds behind an operation, by what it held before.
-use Rattle.std.proofs.Common.{◌≡◌, ◌≢◌, ℕ, Bool, true, false, cond, not, Option, Some, None, is_some}
+use Rattle.std.proofs.Common.{◌≡◌, ◌≢◌, ℕ, true, false, cond, not, Option, Some, None, is_some}
 use Rattle.std.proofs.Common.{refl, sym, ap, ◌∙◌, inl, inr, ◌⊎◌}
 use Rattle.std.proofs.lemmas.Bool.{false≢true}
 use Rattle.std.proofs.lemmas.Option.{none-some, same_Some}
 use Rattle.std.specs.FinMap as map
-use Rattle.std.specs.FinMap.{FinMap}
-use Rattle.coda_fid.specs.Fid.{fid_cmp}
 use Rattle.coda_fid.specs.declared.fid.Fid.{Fid}
 use Rattle.coda_fid.specs.declared.op.Op.{Op}
 use Rattle.coda_fid.specs.declared.op.Op.TheVariants.{Create, Mkdir, Symlink, Store, Setattr, Remove, Rmdir, Rename}
@@ -18,11 +16,7 @@ use Rattle.coda_cache.specs.Steps.{new_node, taken_out, moved_node}
 use Rattle.coda_cache.proofs.Operated.{applied_made, applied_left}
 use Rattle.coda_venus.specs.Held.{Held, Parents, is_below, stays, parents_after, held_without, held_after_operation}
 use Rattle.coda_venus.specs.Held.{taken_out as goes_out}
-use Rattle.coda_rounds.proofs.Climbing.{is_below_itself}
-
-left_at : {X : Type 0} (m : FinMap fid_cmp X) (test : Fid → Bool) (f : Fid)
-    → map.get (map.retain_keys m test) f ≡ cond (test f) (map.get m f) None
-left_at m test f = map.get-retain_keys m test f (λ x e. ap test (sym (exact_fids f x e)))
+use Rattle.coda_histories.proofs.Ways.{get_left, below_itself}
 
 pub same_out : (op : Op) → goes_out op ≡ taken_out op
 same_out (Create dir name fid mode owner) = refl
@@ -57,20 +51,20 @@ module _ (h : Held) (client : ℕ) (rec : Record) where
       ≡ Some x → is_below h.parents q x ≡ false)) [
         | true ↦ λ t k. absurd (false≢true k)
         | false ↦ λ t k. (k, λ x e. ap (is_below h.parents q) (sym (same_Some gone x e)) ∙ t)
-      ]) refl (ap is_some (sym (left_at then_nodes (stays h.parents gone) q)) ∙ is)
+      ]) refl (ap is_some (sym (get_left then_nodes (stays h.parents gone) q)) ∙ is)
 
   both_left : (o : Option Fid) (q : Fid) → ((x : Fid) → o ≡ Some x → is_below h.parents q x ≡ false)
       → let then_is : Held = held_without o h.parents (record { nodes = then_nodes; parents = then_parents }) in (map.get then_is.nodes q ≡ map.get then_nodes q) × (map.get then_is.parents q ≡ map.get then_parents q)
   both_left None q apart = (refl, refl)
   both_left (Some gone) q apart = (
-    left_at then_nodes (stays h.parents gone) q ∙ ap (λ b. cond (not b) (map.get then_nodes q) None) (apart gone refl),
-    left_at then_parents (stays h.parents gone) q ∙ ap (λ b. cond (not b) (map.get then_parents q) None)
+    get_left then_nodes (stays h.parents gone) q ∙ ap (λ b. cond (not b) (map.get then_nodes q) None) (apart gone refl),
+    get_left then_parents (stays h.parents gone) q ∙ ap (λ b. cond (not b) (map.get then_parents q) None)
         (apart gone refl),
   )
 
   out_here : (q x : Fid) → is_below h.parents q x ≡ false → q ≢ x
   out_here q x apart same =
-      false≢true (sym apart ∙ ap (λ y. is_below h.parents y x) same ∙ is_below_itself h.parents x)
+      false≢true (sym apart ∙ ap (λ y. is_below h.parents y x) same ∙ below_itself h.parents x)
 
   -- ---- nodes
 
@@ -128,3 +122,19 @@ module _ (h : Held) (client : ℕ) (rec : Record) where
       → map.get then_held.parents q ≡ map.get h.parents q
   same_parent q apart made moved =
       (both_left (goes_out rec.op) q (λ x out. apart x (sym (same_out rec.op) ∙ out))).1 ∙ own_parent rec.op q made moved
+
+  -- what isn't below what is taken out has the parent that the operation gives it
+  pub parents_left : (q : Fid) → IsApart q → map.get then_held.parents q ≡ map.get then_parents q
+  parents_left q apart = (both_left (goes_out rec.op) q (λ x out. apart x (sym (same_out rec.op) ∙ out))).1
+
+  kept_by : (o : Option Fid) (q p : Fid) → map.get (held_without o h.parents (record { nodes = then_nodes; parents = then_parents })).parents q ≡ Some p
+      → map.get then_parents q ≡ Some p
+  kept_by None q p at = at
+  kept_by (Some gone) q p at = (elim (stays h.parents gone q) as (λ b. cond b (map.get then_parents q) None ≡ Some p → map.get then_parents q ≡ Some p) [
+    | true ↦ λ e. e
+    | false ↦ λ e. absurd (none-some p e)
+  ]) (sym (get_left then_parents (stays h.parents gone) q) ∙ at)
+
+  -- a parent that is left is what the operation gave
+  pub parents_kept : (q p : Fid) → map.get then_held.parents q ≡ Some p → map.get then_parents q ≡ Some p
+  parents_kept q p at = kept_by (goes_out rec.op) q p at

@@ -24,11 +24,12 @@ use Rattle.coda_record.specs.declared.entry.ClientEntry.TheVariants as entry
 use Rattle.coda_venus.specs.Held.{with_parent}
 use Rattle.coda_venus.specs.History.{IsParent, MayEnterAll}
 use Rattle.coda_venus.specs.State.{ClientState, client_after}
-use Rattle.coda_rounds.specs.Serving.{ServingClient, used_all, hold_of, cache_of}
-use Rattle.coda_rounds.specs.Rounds.{Looked, dropping, serving_after}
+use Rattle.coda_venus.specs.Serving.{ServingClient, used_all, hold_of, cache_of}
+use Rattle.coda_venus.specs.Rounds.{Looked, dropping, serving_after}
 use Rattle.coda_rounds.specs.Entering.{IsInOrder}
 use Rattle.coda_rounds.proofs.Fetching.{left_parents, was_cached}
-use Rattle.coda_rounds.proofs.Items.{held_at, recent_is, recent_from}
+use Rattle.coda_venus.proofs.ServedAlike.{held_at}
+use Rattle.coda_rounds.proofs.Items.{recent_is, recent_from}
 use Rattle.coda_rounds.proofs.Others.{left_stays}
 use Rattle.coda_rounds.proofs.Replies.{left_of}
 

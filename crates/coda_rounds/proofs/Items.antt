@@ -1,18 +1,15 @@
 -- The items of a client's cache.
-use Rattle.std.proofs.Common.{◌≡◌, Bool, true, false, cond, ◌&&◌, List, [], ◌∷◌, Option, Some, None}
+use Rattle.std.proofs.Common.{◌≡◌, Bool, true, false, ◌&&◌, List, [], ◌∷◌, Option, Some, None}
 use Rattle.std.proofs.Common.{is_some, option_map, refl, sym, ap, ◌∙◌, subst, ⊎_elim, inl, inr}
 use Rattle.std.proofs.lemmas.Bool.{or_left, or_right, or_cases, and_parts, and_from, false≢true}
 use Rattle.std.specs.Prelude as prelude
 use Rattle.std.specs.List.{list_any}
 use Rattle.std.specs.Option.{option_map_or}
-use Rattle.std.specs.Ordering.{eq_by_cmp}
 use Rattle.std.specs.FinMap as map
-use Rattle.coda_fid.specs.Fid.{fid_cmp, same_fid}
+use Rattle.coda_fid.specs.Fid.{same_fid}
 use Rattle.coda_fid.specs.declared.fid.Fid.{Fid}
-use Rattle.coda_fid.proofs.Fids.{fids_total}
 use Rattle.coda_tree.specs.declared.node.Node.{Node}
 use Rattle.coda_tree.specs.Volume.{has}
-use Rattle.coda_tree.proofs.Parents.{tied_fid}
 use Rattle.coda_cancel.proofs.Keys.{fid_true}
 use Rattle.coda_walk.specs.declared.item.Item.{Item}
 use Rattle.coda_walk.specs.Going.{is_listed}
@@ -26,7 +23,8 @@ use Rattle.coda_cache.proofs.Kept.{listed_where}
 use Rattle.coda_cache.proofs.Rightly.{among_map}
 use Rattle.coda_venus.specs.Accepting.{is_mentioned}
 use Rattle.coda_venus.specs.History.{IsDirty}
-use Rattle.coda_rounds.specs.Serving.{ServingClient, hold_of, cache_of}
+use Rattle.coda_venus.specs.Serving.{ServingClient, hold_of, cache_of}
+use Rattle.coda_venus.proofs.ServedAlike.{held_at}
 use Rattle.coda_rounds.proofs.Staying.{held}
 
 -- ---- lists
@@ -49,31 +47,12 @@ among_of item (x ∷ fids) g h = ⊎_elim
 
 -- ---- how a cached node is held
 
-found_at : (s : ServingClient) (es : List (Fid × Node)) (g : Fid) → map.find fid_cmp g
-    (prelude.map (λ (e : Fid × Node). (e.0, hold_of s e.0)) es) ≡ option_map (λ (n : Node). hold_of s g)
-    (map.find fid_cmp g es)
-found_at s [] g = refl
-found_at s (e ∷ es) g =
-    (elim (eq_by_cmp fid_cmp g e.0) as (λ b. eq_by_cmp fid_cmp g e.0 ≡ b → cond b (Some (hold_of s e.0))
-    (map.find fid_cmp g (prelude.map (λ (e : Fid × Node). (e.0, hold_of s e.0)) es))
-    ≡ option_map (λ (n : Node). hold_of s g) (cond b (Some e.1) (map.find fid_cmp g es))) [
-      | true ↦ λ tied. ap (λ x. Some (hold_of s x)) (sym (tied_fid g e.0 tied))
-      | false ↦ λ _. found_at s es g
-    ]) refl
-
 module _ (s : ServingClient) where
   abbrev cache : CacheState
   cache = cache_of s
 
-  pub held_at : (g : Fid) → map.get cache.holds g ≡ option_map (λ (n : Node). hold_of s g) (map.get s.client.held.nodes g)
-  held_at g =
-      map.get-from_entries fids_total
-      (prelude.map (λ (e : Fid × Node). (e.0, hold_of s e.0)) (map.entries s.client.held.nodes)) g
-      ∙ found_at s (map.entries s.client.held.nodes) g ∙ ap (λ (o : Option Node). option_map (λ (n : Node). hold_of s g) o)
-      (sym (map.get-entries s.client.held.nodes g))
-
   pub parent_at : (g : Fid) → has s.client.held.nodes g ≡ true → parent_of cache g ≡ map.get s.client.held.parents g
-  parent_at g there = ap parent_held (held_at g) ∙ by (map.get s.client.held.nodes g) there
+  parent_at g there = ap parent_held (held_at s g) ∙ by (map.get s.client.held.nodes g) there
     where
       by : (o : Option Node) → is_some o ≡ true
           → parent_held (option_map (λ (n : Node). hold_of s g) o) ≡ map.get s.client.held.parents g
@@ -82,7 +61,7 @@ module _ (s : ServingClient) where
 
   dirty_at : (g : Fid) → has s.client.held.nodes g ≡ true → is_dirty cache g ≡ is_mentioned (s.client.volumes g.volume) g
   dirty_at g there =
-      ap (λ o. option_map_or (λ (hold : Hold). hold.dirty) o false) (held_at g) ∙ by (map.get s.client.held.nodes g) there
+      ap (λ o. option_map_or (λ (hold : Hold). hold.dirty) o false) (held_at s g) ∙ by (map.get s.client.held.nodes g) there
     where
       by : (o : Option Node) → is_some o ≡ true → option_map_or (λ (hold : Hold). hold.dirty)
           (option_map (λ (n : Node). hold_of s g) o) false ≡ is_mentioned (s.client.volumes g.volume) g

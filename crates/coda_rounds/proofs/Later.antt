@@ -19,9 +19,9 @@ use Rattle.coda_venus.specs.Accepting.{next_fid, sight_of}
 use Rattle.coda_venus.specs.History.{MayEnter, MayEnterAll, MayOperate}
 use Rattle.coda_venus.specs.State.{ClientVolume, ClientState, put, client_after, client_after_all}
 use Rattle.coda_venus.proofs.Accepted.{accepted_relies}
-use Rattle.coda_rounds.specs.Serving.{ServingClient}
-use Rattle.coda_rounds.specs.Rounds.{RoundStep, Looked, Installed, Turned, Performed, Sources, dropping, payload_of}
-use Rattle.coda_rounds.specs.Rounds.{serving_after}
+use Rattle.coda_venus.specs.Serving.{ServingClient}
+use Rattle.coda_venus.specs.Rounds.{RoundStep, Looked, Installed, Turned, Performed, Sources, dropping, entries_of_step}
+use Rattle.coda_venus.specs.Rounds.{serving_after}
 use Rattle.coda_rounds.specs.Later.{IsLater, AreLaterFree, ComesFrom, StepComesFrom, LaterObjectsStayFree}
 use Rattle.coda_rounds.proofs.HeldBehind.{held_before}
 use Rattle.coda_rounds.proofs.Performing.{made_next}
@@ -150,7 +150,7 @@ behind_drops sources c volume (g ∷ gone) last free may comes =
     (later_entered sources c volume free (entry.Dropped g) may.0 tt) may.1 comes
 
 later_stepped : (sources : Sources) (s : ServingClient) (step : RoundStep) (volume : ℕ)
-    → AreLaterFree sources s.client volume → MayEnterAll s.client (payload_of step) → StepComesFrom sources step
+    → AreLaterFree sources s.client volume → MayEnterAll s.client (entries_of_step step) → StepComesFrom sources step
     → AreLaterFree sources (serving_after s step).client volume
 later_stepped sources s (Looked fids) volume free may comes = free
 later_stepped sources s (Turned fid server) volume free may comes = free

@@ -245,3 +245,59 @@ module _ (q : Fid) where
           let is = removed rec.op t in
           undone_left (object (carried rec.op)) recs rec is.0 is.1
           (ap (λ b. cond b (without (object (carried rec.op)) recs) (appended recs rec)) t) h
+
+  -- ---- nothing is mentioned anew but by the operation
+
+  without_back : (f : Fid) (recs : List Record) → any_record (mentioning q) (without f recs) ≡ true
+      → any_record (mentioning q) recs ≡ true
+  without_back f [] h = h
+  without_back f (rec ∷ recs) h = (elim (mentioning f rec.op) as (λ b. any_record (mentioning q)
+      (cond b (without f recs) (rec ∷ without f recs)) ≡ true → any_record (mentioning q) (rec ∷ recs) ≡ true) [
+        | true ↦ λ k. or_right (mentioning q rec.op) _ (without_back f recs k)
+        | false ↦ λ k. ⊎_elim
+            (λ (a : mentioning q rec.op ≡ true). or_left (mentioning q rec.op) _ a)
+            (λ (b : any_record (mentioning q) (without f recs) ≡ true). or_right (mentioning q rec.op) _
+            (without_back f recs b))
+            (or_cases (mentioning q rec.op) (any_record (mentioning q) (without f recs)) k)
+      ]) h
+
+  kept_back : (test : Op → Bool) (owed : Debt) (recs : List Record)
+      → any_record (mentioning q) (kept test owed recs) ≡ true → any_record (mentioning q) recs ≡ true
+  kept_back test owed [] h = h
+  kept_back test owed (rec ∷ recs) h = (elim (test rec.op) as (λ b. any_record (mentioning q)
+      (cond b (kept test (owe owed (carried rec.op)) recs) (hand owed rec ∷ kept test (paid owed (carried rec.op)) recs))
+      ≡ true → any_record (mentioning q) (rec ∷ recs) ≡ true) [
+        | true ↦ λ k. or_right (mentioning q rec.op) _ (kept_back test (owe owed (carried rec.op)) recs k)
+        | false ↦ λ k. ⊎_elim
+            (λ (a : mentioning q (hand owed rec).op ≡ true). or_left (mentioning q rec.op) _
+            (sym (handed owed rec) ∙ a))
+            (λ (b : any_record (mentioning q) (kept test (paid owed (carried rec.op)) recs) ≡ true).
+            or_right (mentioning q rec.op) _ (kept_back test (paid owed (carried rec.op)) recs b))
+            (or_cases (mentioning q (hand owed rec).op)
+            (any_record (mentioning q) (kept test (paid owed (carried rec.op)) recs)) k)
+      ]) h
+
+  pub mentioned_back : (recs : List Record) (rec : Record) → mentioning q rec.op ≡ false
+      → any_record (mentioning q) (add recs rec) ≡ true → any_record (mentioning q) recs ≡ true
+  mentioned_back recs rec none h = (elim (cancels rec.op recs) as (λ b. any_record (mentioning q)
+      (cond b (without (object (carried rec.op)) recs) (appended recs rec)) ≡ true
+      → any_record (mentioning q) recs ≡ true) [
+        | true ↦ λ k. without_back (object (carried rec.op)) recs k
+        | false ↦ λ k. ⊎_elim
+            (λ (a : any_record (mentioning q) (kept (drops rec.op) nothing recs) ≡ true).
+            kept_back (drops rec.op) nothing recs a)
+            (λ (b : any_record (mentioning q) (newest ∷ []) ≡ true). absurd (only b))
+            (or_cases (any_record (mentioning q) (kept (drops rec.op) nothing recs))
+            (any_record (mentioning q) (newest ∷ []))
+            (sym (any_joined (mentioning q) (kept (drops rec.op) nothing recs) (newest ∷ [])) ∙ k))
+      ]) h
+    where
+      newest : Record
+      newest = hand (debt (drops rec.op) nothing recs) rec
+
+      only : any_record (mentioning q) (newest ∷ []) ≡ true → ⊥
+      only b = ⊎_elim
+          (λ (a : mentioning q newest.op ≡ true).
+          false≢true (sym none ∙ sym (handed (debt (drops rec.op) nothing recs) rec) ∙ a))
+          (λ (c : false ≡ true). false≢true c)
+          (or_cases (mentioning q newest.op) false b)

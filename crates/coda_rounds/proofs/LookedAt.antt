@@ -27,7 +27,7 @@ use Rattle.coda_venus.specs.Ask.{Asked, Create, Mkdir, Symlink, Store, Setattr, 
 use Rattle.coda_venus.specs.Held.{is_below, some_below}
 use Rattle.coda_venus.specs.Looking.{then_find, held, resolve}
 use Rattle.coda_venus.proofs.Accepted.{found_then, not_at_root, ok_is, root_stays, unless_is, unless_below}
-use Rattle.coda_rounds.specs.Serving.{look_on, looked_up, looked_up_to_rename, looked_up_for}
+use Rattle.coda_venus.specs.Serving.{look_on, looked_up, looked_up_to_rename, looked_up_for}
 use Rattle.coda_rounds.proofs.LookedUp.{last_listed, resolve_more, IsSpot, spot_parts, place_parts}
 use Rattle.coda_rounds.proofs.LookedUp.{place_listed, path_is}
 use Rattle.coda_rounds.proofs.Replies.{listed_behind}

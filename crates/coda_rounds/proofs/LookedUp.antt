@@ -18,7 +18,7 @@ use Rattle.coda_venus.specs.Accepting.{spot, held_bound, bound_in, bound_at, pla
 use Rattle.coda_venus.specs.Ask.{Ending, ending}
 use Rattle.coda_venus.specs.Looking.{then_find, held, found, step_in, step_from, resolve}
 use Rattle.coda_venus.proofs.Accepted.{found_then, held_is, ok_is}
-use Rattle.coda_rounds.specs.Serving.{look_on, looked_up}
+use Rattle.coda_venus.specs.Serving.{look_on, looked_up}
 
 -- each of the fids is among others
 abbrev pub IsWithin : List Fid → List Fid → Type 0

@@ -31,10 +31,11 @@ use Rattle.coda_venus.specs.Held.{is_below}
 use Rattle.coda_venus.specs.History.{IsDirty, MayEnterAll}
 use Rattle.coda_venus.specs.State.{ClientVolume, volume_after}
 use Rattle.coda_plain.specs.Deeds.{Operated}
-use Rattle.coda_rounds.specs.Serving.{ServingClient, used_new, cache_of, once_operated}
-use Rattle.coda_rounds.specs.Rounds.{dropping}
+use Rattle.coda_venus.specs.Serving.{ServingClient, used_new, cache_of, once_operated}
+use Rattle.coda_venus.specs.Rounds.{dropping}
 use Rattle.coda_rounds.specs.Entering.{IsOrderly, StandWhereMade, LooksUp, WhatGoesForOperationsMayBeDropped}
-use Rattle.coda_rounds.proofs.Climbing.{is_below_itself, parent_below, parent_kept}
+use Rattle.coda_histories.proofs.Ways.{below_itself}
+use Rattle.coda_rounds.proofs.Climbing.{parent_below, parent_kept}
 use Rattle.coda_rounds.proofs.Dropped.{Tell, may_drop_all}
 use Rattle.coda_rounds.proofs.HeldBehind.{IsApart, held_before, held_behind, same_parent}
 use Rattle.coda_rounds.proofs.Items.{among_of, parent_at, recent_is, recent_from, dirty_pinned, item_is}
@@ -141,7 +142,7 @@ module _ (s : ServingClient) (volume : ℕ) (rec : Record) (looked : List Fid) (
         λ dirty. ⊎_elim clean
             (λ (out : (f : Fid) × (taken_out rec.op ≡ Some f) × ((i.fid ≡ f) ⊎ (map.get s.client.held.parents f ≡ Some i.fid))). ⊎_elim
             (λ (same : i.fid ≡ out.0). false≢true (sym (before.0 out.0 out.1)
-            ∙ ap (λ x. is_below s.client.held.parents x out.0) same ∙ is_below_itself s.client.held.parents out.0))
+            ∙ ap (λ x. is_below s.client.held.parents x out.0) same ∙ below_itself s.client.held.parents out.0))
             (λ (at : map.get s.client.held.parents out.0 ≡ Some i.fid). not_kept i free (taken_kept out.0 i.fid out.1 at))
             out.2)
             (dirty_still i.fid dirty),

@@ -18,8 +18,8 @@ use Rattle.coda_histories.specs.Forests.{IsForest}
 use Rattle.coda_histories.proofs.Entries.{entered_all}
 use Rattle.coda_record.specs.declared.entry.ClientEntry.TheVariants as entry
 use Rattle.coda_venus.specs.State.{ClientState, client_after}
-use Rattle.coda_rounds.specs.Serving.{ServingClient, used_new}
-use Rattle.coda_rounds.specs.Rounds.{RoundStep, Looked, Installed, Turned, Performed, payload_of, serving_after}
+use Rattle.coda_venus.specs.Serving.{ServingClient, used_new}
+use Rattle.coda_venus.specs.Rounds.{RoundStep, Looked, Installed, Turned, Performed, entries_of_step, serving_after}
 use Rattle.coda_rounds.specs.Entering.{IsInOrder}
 use Rattle.coda_rounds.specs.Orders.{StepsLeaveOrder}
 use Rattle.coda_rounds.specs.Orders.{AllStepsLeaveOrder}
@@ -86,7 +86,7 @@ steps_leave_order s (Looked fids) order may keeps = (order_looked s fids order.0
 steps_leave_order s (Turned fid server) order may keeps = (order.0, order.1)
 steps_leave_order s (Installed gone fid parent node server) order may keeps =
     let step : RoundStep = Installed gone fid parent node server in
-    let grown = entered_all s.client (payload_of step) may keeps (forest_of s order.0, order.1) in (
+    let grown = entered_all s.client (entries_of_step step) may keeps (forest_of s order.0, order.1) in (
       order_of (serving_after s step) grown.0
           (subst (λ (c : ClientState). AreUsed c (latest s.beside.uses fid)) (sym (drops_first s.client gone (entry.Fetched fid parent node ∷ [])))
           (used_fetched s.client gone s.beside.uses fid parent node order.0.orderly.used))
@@ -95,7 +95,7 @@ steps_leave_order s (Installed gone fid parent node server) order may keeps =
     )
 steps_leave_order s (Performed gone volume rec) order may keeps =
     let step : RoundStep = Performed gone volume rec in
-    let grown = entered_all s.client (payload_of step) may keeps (forest_of s order.0, order.1) in (
+    let grown = entered_all s.client (entries_of_step step) may keeps (forest_of s order.0, order.1) in (
       order_of (serving_after s step) grown.0
           (subst (λ (c : ClientState). AreUsed c (used_new s.beside.uses (new_node rec.op))) (sym (drops_first s.client gone (entry.Op volume rec ∷ [])))
           (used_operated s.client gone s.beside.uses volume rec order.0.orderly.used))

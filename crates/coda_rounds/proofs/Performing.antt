@@ -25,8 +25,8 @@ use Rattle.coda_venus.specs.History.{MayOperate, MayEnterAll}
 use Rattle.coda_venus.specs.Keeping.{record_of}
 use Rattle.coda_venus.specs.State.{ClientVolume, ClientState}
 use Rattle.coda_venus.proofs.Accepted.{Relies, accepted_relies}
-use Rattle.coda_rounds.specs.Serving.{ServingClient, served, serving, looked_up_for, cache_of, once_operated, goes_for}
-use Rattle.coda_rounds.specs.Rounds.{dropping, recorded}
+use Rattle.coda_venus.specs.Serving.{ServingClient, served, serving, looked_up_for, cache_of, once_operated, goes_for}
+use Rattle.coda_venus.specs.Rounds.{dropping, recorded}
 use Rattle.coda_rounds.specs.Laws.{MentionsOnlyVolume}
 use Rattle.coda_rounds.specs.Sights.{HasLookedUp}
 use Rattle.coda_rounds.specs.Entering.{LooksUp, IsNextFree, OperationsMayBeEntered}

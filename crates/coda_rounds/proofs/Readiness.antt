@@ -8,7 +8,7 @@ use Rattle.coda_fid.specs.declared.op.Op.{Op}
 use Rattle.coda_fid.specs.declared.op.Op.TheVariants.{Create, Mkdir, Symlink, Store, Setattr, Remove, Rmdir, Rename}
 use Rattle.coda_cancel.specs.Dropping.{mentioning}
 use Rattle.coda_cancel.proofs.Keys.{fid_same}
-use Rattle.coda_histories.specs.Forests.{IsForest, AreUnderDirs, KeepsKinds, KeepsKindsIn}
+use Rattle.coda_histories.specs.Forests.{IsForest, ParentsAreDirs, KeepsKinds, KeepsKindsIn}
 use Rattle.coda_histories.proofs.Directories.{put_was}
 use Rattle.coda_histories.proofs.Entries.{entered}
 use Rattle.coda_histories.proofs.Forests.{without_was}
@@ -18,12 +18,12 @@ use Rattle.coda_record.specs.declared.entry.ClientEntry.TheVariants as entry
 use Rattle.coda_venus.specs.Held.{Parents, Held, stays, taken_out, held_without, parents_after}
 use Rattle.coda_venus.specs.History.{Payload, MayEnter, MayEnterAll}
 use Rattle.coda_venus.specs.State.{ClientState, client_after, client_after_all}
-use Rattle.coda_rounds.specs.Serving.{ServingClient}
-use Rattle.coda_rounds.specs.Rounds.{RoundStep, Sources, payload_of, serving_after}
+use Rattle.coda_venus.specs.Serving.{ServingClient}
+use Rattle.coda_venus.specs.Rounds.{RoundStep, Sources, entries_of_step, serving_after}
 use Rattle.coda_tree.specs.declared.node.Node.{Node}
 use Rattle.coda_rounds.specs.Entering.{IsReady, new_serving_client}
 use Rattle.coda_rounds.specs.Places.{AreInDirs, KeepsToVolume, ArePlaced, AreOfTheirVolumes}
-use Rattle.coda_rounds.specs.Readiness.{AreWithinVolumes, KeepsToVolumes, AllKeepToVolumes, IsAtWork, MayStep, ClientsStayReady}
+use Rattle.coda_rounds.specs.Readiness.{AreWithinVolumes, IsOfOneVolume, AllOfOneVolume, IsAtWork, MayStep, ClientsStayReady}
 use Rattle.coda_rounds.proofs.Later.{later_objects_stay_free}
 use Rattle.coda_rounds.proofs.NewClient.{in_order, no_parent}
 use Rattle.coda_rounds.proofs.Orders.{forest_of, steps_leave_order}
@@ -67,7 +67,7 @@ within_without None parents held within = within
 within_without (Some gone) parents held within =
     λ f p at. within f p (left_was held.parents (stays parents gone) f p at).1
 
-within_entered : (c : ClientState) (next : ClientEntry) → KeepsToVolumes next → AreWithinVolumes c.held
+within_entered : (c : ClientState) (next : ClientEntry) → IsOfOneVolume next → AreWithinVolumes c.held
     → AreWithinVolumes (client_after c next).held
 within_entered c (entry.Op volume rec) own within =
     within_without (taken_out rec.op) c.held.parents _ (parent_volume c.held volume rec.op own within)
@@ -80,7 +80,7 @@ within_entered c (entry.Dropped fid) own within = λ f p at. within f p (without
 within_entered c (entry.Hoard change) own within = within
 within_entered c (entry.Snapshot snapshot) own within = within
 
-of_one_volume : (next : ClientEntry) → KeepsToVolumes next → KeepsToVolume next
+of_one_volume : (next : ClientEntry) → IsOfOneVolume next → KeepsToVolume next
 of_one_volume (entry.Op volume rec) own = own
 of_one_volume (entry.Freeze volume number home last) own = tt
 of_one_volume (entry.Settled volume number verdict) own = tt
@@ -95,12 +95,12 @@ of_one_volume (entry.Snapshot snapshot) own = tt
 -- what is kept of a client by itself
 record Keeps (c : ClientState) : Type 0 where
   forest : IsForest c.held
-  under : AreUnderDirs c.held
+  under : ParentsAreDirs c.held
   within : AreWithinVolumes c.held
   placed : ArePlaced c
   logs : AreOfTheirVolumes c
 
-keeps_entered : (c : ClientState) (next : ClientEntry) → MayEnter c next → KeepsKinds c next → KeepsToVolumes next
+keeps_entered : (c : ClientState) (next : ClientEntry) → MayEnter c next → KeepsKinds c next → IsOfOneVolume next
     → Keeps c → Keeps (client_after c next)
 keeps_entered c next may kinds own k =
     let grown = entered c next may kinds (k.forest, k.under) in
@@ -114,7 +114,7 @@ keeps_entered c next may kinds own k =
     }
 
 keeps_all : (c : ClientState) (entries : Payload) → MayEnterAll c entries → KeepsKindsIn c entries
-    → AllKeepToVolumes entries → Keeps c → Keeps (client_after_all c entries)
+    → AllOfOneVolume entries → Keeps c → Keeps (client_after_all c entries)
 keeps_all c [] may kinds own k = k
 keeps_all c (next ∷ entries) may kinds own k =
     keeps_all (client_after c next) entries may.1 kinds.1 own.1 (keeps_entered c next may.0 kinds.0 own.0 k)
@@ -148,7 +148,7 @@ works_first sources number blocks nowhere = record {
 works_on : (sources : Sources) (s : ServingClient) (step : RoundStep) → IsAtWork sources s → MayStep sources s step
     → IsAtWork sources (serving_after s step)
 works_on sources s step w m =
-    let k = keeps_all s.client (payload_of step) m.may m.kinds m.volumes (record {
+    let k = keeps_all s.client (entries_of_step step) m.may m.kinds m.volumes (record {
       forest = forest_of s w.order.0;
       under = w.order.1;
       within = w.within;

@@ -20,10 +20,10 @@ use Rattle.coda_record.specs.declared.entry.ClientEntry.TheVariants as entry
 use Rattle.coda_venus.specs.Accepting.{is_mentioned, next_fid, sight_of}
 use Rattle.coda_venus.specs.History.{IsDirty, IsParent, MayEnterAll}
 use Rattle.coda_venus.specs.State.{ClientState, client_after}
-use Rattle.coda_rounds.specs.Serving.{ServingClient}
-use Rattle.coda_rounds.specs.Rounds.{RoundStep, Looked, Installed, dropping, copies_with, copies_without, serving_after}
-use Rattle.coda_rounds.specs.Rounds.{Sources, parent_for, goes_for_fetch, ClientCall, Rounds, answers, fails, turned}
-use Rattle.coda_rounds.specs.Rounds.{again}
+use Rattle.coda_venus.specs.Serving.{ServingClient}
+use Rattle.coda_venus.specs.Rounds.{RoundStep, Looked, Installed, dropping, copies_with, copies_without, serving_after}
+use Rattle.coda_venus.specs.Rounds.{Sources, parent_of_fetched, goes_for_fetch, ClientCall, Rounds, answers, fails, turned}
+use Rattle.coda_venus.specs.Rounds.{again}
 use Rattle.coda_rounds.specs.Laws.{IsUnserved, NeedsUnserved}
 use Rattle.coda_rounds.specs.Entering.{IsPlaced, MayEnterSteps, IsReady, NeedsPlaced, AnswersMayBeEntered}
 use Rattle.coda_rounds.specs.Entering.{RoundsMayBeEntered}
@@ -69,7 +69,7 @@ ready_looked sources s volume looked r = record {
 
 module _ (sources : Sources) (emulating : Bool) (volume : ℕ) (s : ServingClient) (ready : IsReady sources s volume) (fid : Fid) (node : Node) (server : ℕ) (keep gone : List Fid) (given : sources fid ≡ Ok (node, server)) (unserved : IsUnserved emulating s fid) (placed : IsPlaced s fid) (room : goes_for_fetch s fid node keep ≡ Ok gone) where
   abbrev parent : Option Fid
-  parent = parent_for s.client.held fid
+  parent = parent_of_fetched s.client.held fid
 
   abbrev then_left : ClientState
   then_left = left_of s.client gone
@@ -160,7 +160,7 @@ module _ (sources : Sources) (emulating : Bool) (volume : ℕ) (call : ClientCal
         tt,
         (
           fetches_may_be_entered emulating now fid node server fetched gone still.order.orderly unserved placed room,
-          enters (fetched ++ fid ∷ []) (serving_after now (Installed gone fid (parent_for s.client.held fid) node server))
+          enters (fetched ++ fid ∷ []) (serving_after now (Installed gone fid (parent_of_fetched s.client.held fid) node server))
               later a
               (ready_fetched sources emulating volume now still fid node server fetched gone there unserved placed room)
               rest,

@@ -30,7 +30,7 @@ use Rattle.coda_venus.specs.Accepting.{accept_rename, accept_remove, accept_rmdi
 use Rattle.coda_walk.specs.Going.{is_listed}
 use Rattle.coda_venus.proofs.Accepted.{found_then, held_is, not_at_root, new_fid_is, resolve_has, root_stays}
 use Rattle.coda_venus.proofs.Accepted.{unless_is}
-use Rattle.coda_rounds.specs.Serving.{look_on, looked_up, looked_up_to_rename, looked_up_for}
+use Rattle.coda_venus.specs.Serving.{look_on, looked_up, looked_up_to_rename, looked_up_for}
 use Rattle.coda_rounds.specs.Sights.{HasLookedUp, PartsAcceptAsTheWhole, WhatWasLookedUpSuffices}
 use Rattle.coda_rounds.proofs.LookedUp.{IsWithin, head_within, tail_within, end_listed, front_within, last_listed}
 use Rattle.coda_rounds.proofs.LookedUp.{resolve_more, IsSpot, spot_parts, IsPlace, place_parts, place_listed, path_is}

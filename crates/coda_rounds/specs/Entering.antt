@@ -22,10 +22,10 @@ use Rattle.coda_venus.specs.History.{MayEnterAll}
 use Rattle.coda_venus.specs.State.{new_client}
 use Rattle.coda_venus.specs.declared.refused.Refused.{Refused as Refusal}
 use Rattle.coda_venus.specs.declared.seen.Seen.{Seen}
-use Rattle.coda_rounds.specs.Serving.{ServingClient, served, looked_up_for, cache_of, goes_for}
-use Rattle.coda_rounds.specs.Rounds.{RoundStep, Looked, Installed, Performed, dropping, payload_of, serving_after}
-use Rattle.coda_rounds.specs.Rounds.{Sources, parent_for, goes_for_fetch, accepted, Needs, Answered, ClientCall}
-use Rattle.coda_rounds.specs.Rounds.{Rounds, RefusalCause, operating, showing}
+use Rattle.coda_venus.specs.Serving.{ServingClient, served, looked_up_for, cache_of, goes_for}
+use Rattle.coda_venus.specs.Rounds.{RoundStep, Looked, Installed, Performed, dropping, entries_of_step, serving_after}
+use Rattle.coda_venus.specs.Rounds.{Sources, parent_of_fetched, goes_for_fetch, accepted, Needs, Answered, ClientCall}
+use Rattle.coda_venus.specs.Rounds.{Rounds, RefusalCause, operating, showing}
 use Rattle.coda_rounds.specs.Laws.{IsUnserved, MentionsOnlyVolume, NeedsUnserved, RefusesItself}
 
 -- The cache of a client is in order: each cached node was used, and nothing but a cached node has a parent.
@@ -50,7 +50,7 @@ abbrev pub FetchesMayBeEntered : Type 0
 FetchesMayBeEntered =
     (emulating : Bool) (s : ServingClient) (fid : Fid) (node : Node) (server : ℕ) (keep gone : List Fid) → IsOrderly s
     → IsUnserved emulating s fid → IsPlaced s fid → goes_for_fetch s fid node keep ≡ Ok gone
-    → MayEnterAll s.client (payload_of (Installed gone fid (parent_for s.client.held fid) node server))
+    → MayEnterAll s.client (entries_of_step (Installed gone fid (parent_of_fetched s.client.held fid) node server))
 
 -- ---- operations
 
@@ -92,14 +92,14 @@ OperationsMayBeEntered =
     → too_big ask ≡ None → accepted emulating s time volume ask ≡ Ok rec
     → has_room (s.client.volumes volume) rec ≡ true → is_full (s.client.volumes volume) ≡ false
     → goes_for s volume rec (looked_up_for (served emulating s) volume ask) ≡ Ok gone
-    → MayEnterAll s.client (payload_of (Performed gone volume rec))
+    → MayEnterAll s.client (entries_of_step (Performed gone volume rec))
 
 -- ---- rounds
 
 -- Each of the steps has a payload that may follow behind the steps before it.
 abbrev pub MayEnterSteps : ServingClient → List RoundStep → Type 0
 MayEnterSteps s [] = Unit {0}
-MayEnterSteps s (step ∷ steps) = MayEnterAll s.client (payload_of step) × MayEnterSteps (serving_after s step) steps
+MayEnterSteps s (step ∷ steps) = MayEnterAll s.client (entries_of_step step) × MayEnterSteps (serving_after s step) steps
 
 -- The cache of a client is in order with its ways up: besides, no object was used twice, the parent of each cached
 -- node is cached, and stands less deep.

@@ -8,8 +8,8 @@ use Rattle.coda_record.specs.declared.entry.ClientEntry.TheVariants.{Fetched}
 use Rattle.coda_venus.specs.Accepting.{next_fid, sight_of}
 use Rattle.coda_venus.specs.History.{MayEnter, MayEnterAll}
 use Rattle.coda_venus.specs.State.{ClientState, client_after}
-use Rattle.coda_rounds.specs.Serving.{ServingClient}
-use Rattle.coda_rounds.specs.Rounds.{RoundStep, Installed, Sources, payload_of, serving_after}
+use Rattle.coda_venus.specs.Serving.{ServingClient}
+use Rattle.coda_venus.specs.Rounds.{RoundStep, Installed, Sources, entries_of_step, serving_after}
 use Rattle.coda_rounds.specs.Entering.{IsNextFree}
 
 -- the client would create the object in the volume, behind all that it created there
@@ -40,5 +40,5 @@ pub record LaterObjectsStayFree : Type 0 where
   pub entered : (sources : Sources) (c : ClientState) (entry : ClientEntry) (volume : ℕ) → AreLaterFree sources c volume
       → MayEnter c entry → ComesFrom sources entry → AreLaterFree sources (client_after c entry) volume
   pub stepped : (sources : Sources) (s : ServingClient) (step : RoundStep) (volume : ℕ)
-      → AreLaterFree sources s.client volume → MayEnterAll s.client (payload_of step) → StepComesFrom sources step
+      → AreLaterFree sources s.client volume → MayEnterAll s.client (entries_of_step step) → StepComesFrom sources step
       → AreLaterFree sources (serving_after s step).client volume

@@ -15,7 +15,7 @@ use Rattle.coda_venus.specs.Accepting.{is_mentioned}
 use Rattle.coda_venus.specs.Held.{Held, Parents}
 use Rattle.coda_venus.specs.History.{Payload, IsHistory, MayEnter, state_of}
 use Rattle.coda_venus.specs.State.{ClientState, client_after, new_client}
-use Rattle.coda_rounds.specs.Serving.{ServingClient}
+use Rattle.coda_venus.specs.Serving.{ServingClient}
 use Rattle.coda_rounds.specs.Laws.{MentionsOnlyVolume}
 use Rattle.coda_rounds.specs.Entering.{StandWhereMade}
 

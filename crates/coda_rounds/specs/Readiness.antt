@@ -8,8 +8,8 @@ use Rattle.coda_record.specs.declared.entry.ClientEntry.{ClientEntry}
 use Rattle.coda_record.specs.declared.entry.ClientEntry.TheVariants as entry
 use Rattle.coda_venus.specs.Held.{Held}
 use Rattle.coda_venus.specs.History.{Payload, MayEnterAll}
-use Rattle.coda_rounds.specs.Serving.{ServingClient}
-use Rattle.coda_rounds.specs.Rounds.{RoundStep, Sources, payload_of, serving_after}
+use Rattle.coda_venus.specs.Serving.{ServingClient}
+use Rattle.coda_venus.specs.Rounds.{RoundStep, Sources, entries_of_step, serving_after}
 use Rattle.coda_rounds.specs.Entering.{IsReady, new_serving_client}
 use Rattle.coda_rounds.specs.Places.{KeepsToVolume, ArePlaced, AreOfTheirVolumes}
 use Rattle.coda_rounds.specs.Orders.{IsInOrderBelowDirs}
@@ -20,14 +20,14 @@ abbrev pub AreWithinVolumes : Held → Type 0
 AreWithinVolumes held = (f p : Fid) → map.get held.parents f ≡ Some p → f.volume ≡ p.volume
 
 -- an operation mentions objects of its volume alone, and what is fetched gets a parent of its volume
-abbrev pub KeepsToVolumes : ClientEntry → Type 0
-KeepsToVolumes (entry.Fetched fid (Some dir) node) = fid.volume ≡ dir.volume
-KeepsToVolumes entry = KeepsToVolume entry
+abbrev pub IsOfOneVolume : ClientEntry → Type 0
+IsOfOneVolume (entry.Fetched fid (Some dir) node) = fid.volume ≡ dir.volume
+IsOfOneVolume entry = KeepsToVolume entry
 
 -- so does each of the entries
-abbrev pub AllKeepToVolumes : Payload → Type 0
-AllKeepToVolumes [] = Unit {0}
-AllKeepToVolumes (entry ∷ entries) = KeepsToVolumes entry × AllKeepToVolumes entries
+abbrev pub AllOfOneVolume : Payload → Type 0
+AllOfOneVolume [] = Unit {0}
+AllOfOneVolume (entry ∷ entries) = IsOfOneVolume entry × AllOfOneVolume entries
 
 -- A client works over servers: its cache is in order, in directories of their volume; what its logs mention is of their
 -- volumes, and stands where it was made; and what it creates later is free.
@@ -41,10 +41,10 @@ pub record IsAtWork (sources : Sources) (s : ServingClient) : Type 0 where
 -- A step may follow: its payload may; it fetches what servers have, no file or link in place of a directory that is
 -- cached, and keeps to volumes.
 pub record MayStep (sources : Sources) (s : ServingClient) (step : RoundStep) : Type 0 where
-  pub may : MayEnterAll s.client (payload_of step)
+  pub may : MayEnterAll s.client (entries_of_step step)
   pub comes : StepComesFrom sources step
-  pub kinds : KeepsKindsIn s.client (payload_of step)
-  pub volumes : AllKeepToVolumes (payload_of step)
+  pub kinds : KeepsKindsIn s.client (entries_of_step step)
+  pub volumes : AllOfOneVolume (entries_of_step step)
 
 -- A client that works is ready for calls on each volume. One that was just made works, where no server has an object that
 -- it creates; it works on behind each step that may follow; and over other servers too, where they have none of the objects

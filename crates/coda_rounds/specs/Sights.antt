@@ -12,7 +12,7 @@ use Rattle.coda_venus.specs.Ask.{Asked}
 use Rattle.coda_venus.specs.Held.{is_below, some_below}
 use Rattle.coda_venus.specs.Accepting.{Sight, next_fid, accept}
 use Rattle.coda_venus.specs.declared.refused.Refused.TheVariants.{Need}
-use Rattle.coda_rounds.specs.Serving.{looked_up_for}
+use Rattle.coda_venus.specs.Serving.{looked_up_for}
 
 -- One sight of a volume is part of another: it has some of the nodes, and all else that acceptance looks at; and no
 -- node has the next fid.
