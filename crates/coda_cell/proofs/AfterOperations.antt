@@ -26,8 +26,10 @@ use Rattle.coda_cml.specs.Steady.{unbinds}
 use Rattle.coda_venus.specs.Held.{Parents, Held, AreBound, taken_out, stays, held_without, parents_after, held_after_operation}
 use Rattle.coda_venus.specs.Accepting.{Sight}
 use Rattle.coda_venus.proofs.Accepted.{MayMove, Relies}
-use Rattle.coda_cell.proofs.Fetches.{some_fid, child_fetched}
-use Rattle.coda_cell.proofs.Going.{left_was, stays_apart, nodes_alone}
+use Rattle.coda_histories.proofs.Ways.{some_fid}
+use Rattle.coda_cell.proofs.Fetches.{child_fetched}
+use Rattle.coda_histories.proofs.Ways.{left_was, stays_apart}
+use Rattle.coda_cell.proofs.Going.{nodes_alone}
 
 -- a write leaves what is bound
 written_binds : (patch : Patch) (sid : Sid) (o : Option Node) (n : Name) → child_of (option_map (written patch sid) o) n ≡ child_of o n

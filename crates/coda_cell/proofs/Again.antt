@@ -1,5 +1,5 @@
 -- What a client holds stays in order where an object that no log mentions is fetched again, or dropped.
-use Rattle.std.proofs.Common.{◌≡◌, ◌≢◌, ℕ, true, false, Some, None, is_some, sym, ap, subst, ◌∙◌, inl, inr}
+use Rattle.std.proofs.Common.{◌≡◌, ◌≢◌, true, false, Some, None, is_some, sym, ap, subst, ◌∙◌, inl, inr}
 use Rattle.std.specs.FinMap as map
 use Rattle.std.proofs.lemmas.Bool.{cases_Bool, false≢true}
 use Rattle.std.proofs.lemmas.Option.{none-some}
@@ -7,19 +7,18 @@ use Rattle.coda_fid.specs.declared.fid.Fid.{Fid}
 use Rattle.coda_fid.proofs.Fids.{fids_total, exact_fids}
 use Rattle.coda_tree.specs.declared.node.Node.{Node}
 use Rattle.coda_tree.specs.Bindings.{Name}
-use Rattle.coda_tree.specs.Volume.{Nodes, bindings, child, child_of, has, IsDir, IsDirNode, IsDirAt}
+use Rattle.coda_tree.specs.Volume.{Nodes, child, child_of, has, IsDir, IsDirNode, IsDirAt}
 use Rattle.coda_tree.proofs.Order.{fid_cases, get_here, get_else, gone_here, gone_else}
 use Rattle.coda_cml.specs.Steady.{any_record, unbinds}
-use Rattle.coda_plain.specs.Deeds.{IsMade}
 use Rattle.coda_plain.specs.Cell.{PlainCell}
-use Rattle.coda_plain.specs.Moves.{done_on}
 use Rattle.coda_venus.specs.Held.{Parents, Held, held_after_fetch, held_after_drop}
-use Rattle.coda_cell.specs.Held.{AreUnderDirs, IsForest}
+use Rattle.coda_histories.specs.Forests.{IsForest}
+use Rattle.coda_cell.specs.Held.{AreUnderDirs}
 use Rattle.coda_cell.specs.Laws.{IsClean, MayReplace, CachesStayInOrder}
 use Rattle.coda_cell.specs.Kept.{AreChildrenKept, IsHolding}
 use Rattle.coda_cell.specs.State.{pending, ClientVolume, ClientState}
 use Rattle.coda_cell.specs.Accepting.{is_mentioned}
-use Rattle.coda_cell.proofs.Forests.{forest_same}
+use Rattle.coda_histories.proofs.Forests.{forest_same}
 use Rattle.coda_cell.proofs.Mentioned.{log_mentions}
 use Rattle.coda_cell.proofs.Within.{within_fetch}
 

@@ -33,9 +33,11 @@ use Rattle.coda_cell.specs.Accepting.{sight_of}
 use Rattle.coda_venus.specs.Accepting.{Accepted, Sight, new_place, accept_creation, store_in, store_at, setattr_at, remove_in, remove_at, rmdir_of, rmdir_in, rmdir_at, spot, place, is_dir_kind, is_dir_at, replaced_by, move_to, rename_to, rename_root, accept_rename, accept_remove, accept_rmdir, accept}
 use Rattle.coda_venus.proofs.Accepted.{Relies, accepted_relies, found_then, ok_is, not_at_root, root_stays, unless_below}
 use Rattle.coda_cell.proofs.AfterOperations.{has_operation}
-use Rattle.coda_cell.proofs.Fetches.{some_fid}
-use Rattle.coda_cell.proofs.Forests.{AreDirs, no_dir}
-use Rattle.coda_cell.proofs.Going.{below_alone, taken_none}
+use Rattle.coda_histories.proofs.Ways.{some_fid}
+use Rattle.coda_histories.proofs.Forests.{no_dir}
+use Rattle.coda_histories.specs.Forests.{ParentsAreDirs}
+use Rattle.coda_histories.proofs.Ways.{below_alone}
+use Rattle.coda_cell.proofs.Going.{taken_none}
 use Rattle.coda_cell.proofs.KeptChildren.{any_parts, any_last, makes_creates}
 use Rattle.coda_cell.proofs.Mentioned.{log_mentions}
 
@@ -158,11 +160,11 @@ passes_apart h test gone f none other there passes =
     sym (λ i. not (fid_other f gone other i) && (passes i && is_below h.parents f gone)) ∙ fails
 
 -- what is no directory is nobody's parent
-file_apart : (h : Held) (gone f : Fid) → AreDirs h → is_dir_at (map.get h.nodes gone) ≡ false → f ≢ gone → is_below h.parents f gone ≡ false
+file_apart : (h : Held) (gone f : Fid) → ParentsAreDirs h → is_dir_at (map.get h.nodes gone) ≡ false → f ≢ gone → is_below h.parents f gone ≡ false
 file_apart h gone f dirs file other = below_alone h.parents gone (λ kid is. no_dir (map.get h.nodes gone) (dirs kid gone is) file) f ∙ fid_other f gone other
 
 -- nothing that the log mentions goes with what an operation takes out, but for that
-mentioned_apart : (s : Sight) (volume : ℕ) (op : Op) (gone f : Fid) → Relies s volume op → IsClear s op → AreDirs s.held → taken_out op ≡ Some gone → f ≢ gone → has s.held.nodes f ≡ true → s.is_dirty f ≡ true → is_below s.held.parents f gone ≡ false
+mentioned_apart : (s : Sight) (volume : ℕ) (op : Op) (gone f : Fid) → Relies s volume op → IsClear s op → ParentsAreDirs s.held → taken_out op ≡ Some gone → f ≢ gone → has s.held.nodes f ≡ true → s.is_dirty f ≡ true → is_below s.held.parents f gone ≡ false
 mentioned_apart s volume (CreateOp dir name fid mode owner) gone f r clear dirs is other there dirty = absurd (none-some gone is)
 mentioned_apart s volume (MkdirOp dir name fid mode owner) gone f r clear dirs is other there dirty = absurd (none-some gone is)
 mentioned_apart s volume (SymlinkOp dir name fid target mode owner) gone f r clear dirs is other there dirty = absurd (none-some gone is)
@@ -188,7 +190,7 @@ takes_or_creates (RmdirOp dir name it pre) gone fid is = refl
 takes_or_creates (RenameOp from_dir from to_dir to it over) gone fid is = refl
 
 -- a directory in which something was made that is pending, and left, stays where an operation is accepted
-pub made_apart : (c : ClientState) (volume : ℕ) (ask : Asked) (rec : Record) → accept (sight_of c volume) volume ask ≡ Ok rec.op → AreDirs c.held → (gone dir kid : Fid) → taken_out rec.op ≡ Some gone → has (applied c.held.nodes c.number rec) dir ≡ true
+pub made_apart : (c : ClientState) (volume : ℕ) (ask : Asked) (rec : Record) → accept (sight_of c volume) volume ask ≡ Ok rec.op → ParentsAreDirs c.held → (gone dir kid : Fid) → taken_out rec.op ≡ Some gone → has (applied c.held.nodes c.number rec) dir ≡ true
     → any_record (makes_in dir kid) (pending (c.volumes volume) ++ rec ∷ []) ≡ true → any_record (unbinds kid) (pending (c.volumes volume) ++ rec ∷ []) ≡ false → is_below c.held.parents dir gone ≡ false
 made_apart c volume ask rec accepted dirs gone dir kid is left made stays = elim (any_parts (makes_in dir kid) (pending (c.volumes volume)) (rec ∷ []) made) [
   | inl before ↦ mentioned_apart (sight_of c volume) volume rec.op gone dir (accepted_relies (sight_of c volume) volume ask rec.op accepted) (accepted_clear (sight_of c volume) volume ask rec.op accepted) dirs is other there

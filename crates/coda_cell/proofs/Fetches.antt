@@ -111,9 +111,6 @@ module _ (offers : Option Nodes) where
   ask_looks_up h volume (Rmdir path) = along_looks_up h (root_of volume) path
   ask_looks_up h volume (Rename from to) = rename_looks_up h volume from to
 
-pub some_fid : (x y : Fid) → Some x ≡ Some y → x ≡ y
-some_fid x y e = cc
-
 -- what is bound is bound by an object that is held
 binder_held : (m : Nodes) (dir f : Fid) (name : Name) → child m dir name ≡ Some f → map.get m dir ≡ None → ⊥
 binder_held m dir f name bound none = let no : None ≡ Some f = sym (ap (λ o. child_of o name) none) ∙ bound in cc

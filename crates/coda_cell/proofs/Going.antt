@@ -1,18 +1,17 @@
 -- What goes with an operation: an object, and all that is held below it. Where each object is bound by its parent, it goes alone.
-use Rattle.std.proofs.Common.{◌≡◌, ◌≢◌, ℕ, zero, suc, ◌||◌, Bool, true, false, cond, Option, Some, None, is_some, refl, sym, ap, ◌∙◌, subst, inl, inr}
+use Rattle.std.proofs.Common.{◌≡◌, ℕ, Bool, true, false, cond, Option, Some, None, is_some, refl, sym, ap, ◌∙◌, subst, inl, inr}
 use Rattle.std.specs.Prelude.{not}
-use Rattle.std.specs.Option.{option_map_or}
 use Rattle.std.specs.FinMap as map
 use Rattle.std.specs.FinMap.{FinMap}
 use Rattle.std.proofs.lemmas.Bool.{false≢true}
 use Rattle.std.proofs.lemmas.Option.{none-some}
-use Rattle.coda_fid.specs.Fid.{fid_cmp, same_fid}
+use Rattle.coda_fid.specs.Fid.{fid_cmp}
 use Rattle.coda_fid.specs.declared.fid.Fid.{Fid}
 use Rattle.coda_fid.specs.declared.fid.Sid.{Sid}
 use Rattle.coda_fid.specs.declared.op.Op.{Op}
 use Rattle.coda_fid.specs.declared.op.Op.TheVariants.{Create, Mkdir, Symlink, Store, Setattr, Remove, Rmdir, Rename}
 use Rattle.coda_fid.specs.declared.op.Record.{Record}
-use Rattle.coda_fid.proofs.Fids.{fids_total, exact_fids, same_fid_refl}
+use Rattle.coda_fid.proofs.Fids.{fids_total, exact_fids}
 use Rattle.coda_tree.specs.declared.node.Node.{Node}
 use Rattle.coda_tree.specs.Bindings.{Name}
 use Rattle.coda_tree.specs.Volume.{Nodes, child, child_of, has, bind_in, unbind_in, unbound, moves, edited_all}
@@ -20,28 +19,12 @@ use Rattle.coda_tree.proofs.Order.{fid_cases, gone_here, gone_else}
 use Rattle.coda_tree.proofs.Changes.{has_changed}
 use Rattle.coda_cancel.proofs.Keys.{fid_same, fid_other}
 use Rattle.coda_certify.specs.Replay.{effects, sid_of, applied}
-use Rattle.coda_cache.specs.Parents.{below_within}
-use Rattle.coda_venus.specs.Held.{Parents, Held, AreBound, is_below, taken_out, stays, held_without, parents_after, held_after_operation}
+use Rattle.coda_venus.specs.Held.{Parents, Held, AreBound, taken_out, stays, held_without, parents_after, held_after_operation}
 use Rattle.coda_venus.specs.Accepting.{Sight}
 use Rattle.coda_venus.proofs.Accepted.{Relies}
-use Rattle.coda_cell.proofs.Fetches.{some_fid}
+use Rattle.coda_histories.proofs.Ways.{some_fid, get_left, below_alone}
 
 -- ---- what is left
-
--- what is left of a map at a fid
-pub get_left : {X : Type 0} (m : FinMap fid_cmp X) (test : Fid → Bool) (f : Fid) → map.get (map.retain_keys m test) f ≡ cond (test f) (map.get m f) None
-get_left m test f = map.get-retain_keys m test f (λ x e. ap test (sym (exact_fids f x e)))
-
--- what is left passes the test, and was there
-pub left_was : {X : Type 0} (m : FinMap fid_cmp X) (test : Fid → Bool) (f : Fid) (x : X) → map.get (map.retain_keys m test) f ≡ Some x → (test f ≡ true) × (map.get m f ≡ Some x)
-left_was m test f x is = (elim (test f) as (λ b. test f ≡ b → cond b (map.get m f) None ≡ Some x → (test f ≡ true) × (map.get m f ≡ Some x)) [
-  | true ↦ λ e at. (e, at)
-  | false ↦ λ e at. absurd (none-some x at)
-]) refl (sym (get_left m test f) ∙ is)
-
--- what passes the test is left
-pub left_there : (m : Nodes) (test : Fid → Bool) (f : Fid) → test f ≡ true → has (map.retain_keys m test) f ≡ has m f
-left_there m test f passes = ap is_some (get_left m test f ∙ ap (λ b. cond b (map.get m f) None) passes)
 
 left_had : (m : Nodes) (test : Fid → Bool) (f : Fid) → has (map.retain_keys m test) f ≡ true → has m f ≡ true
 left_had m test f is = (elim (test f) as (λ b. is_some (cond b (map.get m f) None) ≡ true → has m f ≡ true) [
@@ -69,37 +52,7 @@ pub bound_with : (gone : Option Fid) (parents : Parents) (h : Held) (dir f : Fid
 bound_with None parents h dir f name is = is
 bound_with (Some gone) parents h dir f name is = left_bound h.nodes (stays parents gone) dir f name is
 
--- ---- what is below an object
-
--- an object is held below itself
-pub below_itself : (parents : Parents) (f : Fid) → is_below parents f f ≡ true
-unfolding is_below
-below_itself parents f = by (map.len parents)
-  where
-    by : (n : ℕ) → below_within parents n f f ≡ true
-    by zero = same_fid_refl f
-    by (suc n) = ap (λ b. b || option_map_or (λ p. below_within parents n p f) (map.get parents f) false) (same_fid_refl f)
-
--- so it doesn't stay where it goes
-pub stays_apart : (parents : Parents) (gone f : Fid) → stays parents gone f ≡ true → f ≢ gone
-stays_apart parents gone f here same = false≢true (sym (ap not (ap (λ g. is_below parents g gone) same ∙ below_itself parents gone)) ∙ here)
-
-or_false : (b : Bool) → (b || false) ≡ b
-or_false true = refl
-or_false false = refl
-
--- where an object is nobody's parent, nothing else is held below it
-pub below_alone : (parents : Parents) (gone : Fid) → ((f : Fid) → map.get parents f ≡ Some gone → ⊥) → (f : Fid) → is_below parents f gone ≡ same_fid f gone
-unfolding is_below
-below_alone parents gone childless f = by (map.len parents) f
-  where
-    up : (n : ℕ) (f : Fid) (o : Option Fid) → ((p : Fid) → below_within parents n p gone ≡ same_fid p gone) → map.get parents f ≡ o → (same_fid f gone || option_map_or (λ p. below_within parents n p gone) o false) ≡ same_fid f gone
-    up n f None above is = or_false (same_fid f gone)
-    up n f (Some p) above is = ap (λ b. same_fid f gone || b) (above p ∙ fid_other p gone (λ same. childless f (is ∙ ap Some same))) ∙ or_false (same_fid f gone)
-
-    by : (n : ℕ) (f : Fid) → below_within parents n f gone ≡ same_fid f gone
-    by zero f = refl
-    by (suc n) f = up n f (map.get parents f) (λ p. by n p) refl
+-- ---- what goes alone
 
 -- an object that binds nothing is nobody's parent, where each is bound by its parent
 no_parent : (h : Held) (fid : Fid) → AreBound h → ((name : Name) → child h.nodes fid name ≡ None) → (f : Fid) → map.get h.parents f ≡ Some fid → ⊥

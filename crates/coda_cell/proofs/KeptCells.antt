@@ -18,7 +18,7 @@ use Rattle.coda_fid.specs.declared.fid.Fid.{Fid}
 use Rattle.coda_cell.specs.Made.{Copy, MadeCell, nothing_made, client_of, state_of}
 use Rattle.coda_cell.specs.Cells.{IsOrderly, AreOrderly}
 use Rattle.coda_cell.specs.Runs.{IsKept, IsLeft, CellsAreKept}
-use Rattle.coda_cell.proofs.Forests.{forest_none}
+use Rattle.coda_histories.proofs.Forests.{forest_none}
 use Rattle.coda_cell.proofs.Histories.{volumes_are, pending_are}
 use Rattle.coda_cell.proofs.Grown.{volume_grown, client_made}
 

@@ -27,9 +27,10 @@ use Rattle.coda_cell.specs.Looking.{offered, fetch_of, looked}
 use Rattle.coda_venus.specs.Accepting.{Sight}
 use Rattle.coda_cell.specs.Kept.{AreChildrenKept}
 use Rattle.coda_venus.proofs.Accepted.{Relies}
-use Rattle.coda_cell.proofs.Fetches.{some_fid, child_fetched}
+use Rattle.coda_histories.proofs.Ways.{some_fid}
+use Rattle.coda_cell.proofs.Fetches.{child_fetched}
 use Rattle.coda_cell.proofs.AfterOperations.{IsBoundBy, still_bound, newly_bound}
-use Rattle.coda_cell.proofs.Forests.{binds_there}
+use Rattle.coda_histories.proofs.Forests.{binds_there}
 use Rattle.coda_cell.proofs.Going.{left_binds}
 
 -- one of two runs passes

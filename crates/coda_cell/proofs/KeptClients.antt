@@ -13,7 +13,7 @@ use Rattle.coda_plain.specs.Histories.{In}
 use Rattle.coda_plain.specs.Deeds.{Deed, Operated, course_of, full_of, pending_of, IsMade, MayOperate, AreLawful}
 use Rattle.coda_plain.specs.Decisions.{nodes_of}
 use Rattle.coda_plain.specs.Cell.{ClientEntry, Did, deeds_of, Actor, PlainCell}
-use Rattle.coda_plain.specs.Moves.{Move, AtClient, Does, done_on, IsNext, AreNamed, Moved}
+use Rattle.coda_plain.specs.Moves.{Move, AtClient, Does, done_on, IsNext, AreNamed, MayEnter, Moved}
 use Rattle.coda_plain.proofs.Lists.{some_record}
 use Rattle.coda_plain.proofs.Chunking.{in_above}
 use Rattle.coda_plain.proofs.AtClients.{next_made}
@@ -33,11 +33,12 @@ use Rattle.coda_cell.specs.Kept.{AreChildrenKept, IsHolding}
 use Rattle.coda_cell.specs.Made.{MadeCell, client_of, grown, grown_all, moves_of}
 use Rattle.coda_cell.specs.Runs.{AreUp, AreMade, IsKept, IsLeft}
 use Rattle.coda_venus.proofs.Accepted.{Relies, accepted_relies}
-use Rattle.coda_cell.proofs.Apart.{accepted_apart}
+use Rattle.coda_histories.proofs.Apart.{accepted_apart}
 use Rattle.coda_cell.proofs.AfterOperations.{bound_before, has_operation}
 use Rattle.coda_cell.proofs.Cleared.{made_apart}
 use Rattle.coda_cell.proofs.Fetches.{client_after_both, client_after_fetches}
-use Rattle.coda_cell.proofs.Forests.{AreDirs, IsBeside, forest_operation, beside_dirs}
+use Rattle.coda_histories.proofs.Forests.{IsBeside, forest_operation, beside_dirs}
+use Rattle.coda_histories.specs.Forests.{ParentsAreDirs}
 use Rattle.coda_cell.proofs.Going.{had_with, bound_with}
 use Rattle.coda_cell.proofs.Histories.{IsOfCourse, client_push, volume_of, volumes_are, number_stays, shown}
 use Rattle.coda_cell.proofs.KeptCells.{lawful, pending_is}
@@ -46,7 +47,7 @@ use Rattle.coda_cell.proofs.UnderDirs.{dirs_under, below_volume, under_operation
 use Rattle.coda_cell.proofs.Within.{bound_is_named, within_operation}
 use Rattle.coda_cell.proofs.KeptChildren.{unbinds_mentions, takes_unbinds, kept_children_operation, kept_children_beside, kept_children_going, removes_empty}
 use Rattle.coda_cell.proofs.LettersOn.{letters_on}
-use Rattle.coda_cell.proofs.Moving.{HasMore, has_more, shown_more, done_here, done_elsewhere, done_same, made_stays, up_all}
+use Rattle.coda_cell.proofs.Moving.{HasMore, has_more, shown_more, done_here, done_same, made_stays, up_all}
 
 -- what it holds stays in order while histories go on
 pub holding_on : (moves : List Move) (old new : PlainCell) (c : ClientState) → Moved old moves new → IsHolding old c → IsHolding new c
@@ -131,11 +132,55 @@ module _ (cell : MadeCell) (number blocks : ℕ) (kept : IsKept cell) (there : c
     pub fetches_left : IsLeft cell (map (at_client number) (entries_of fetches))
     fetches_left = record { moved = moved; kept = record { sound = runs_sound (moves_of events) cell.acted new.acted kept.sound moved; up = up_all cell events kept.up; made = made; holding = holding; letters = letters_on (moves_of events) cell new kept.sound moved kept.letters more.waiting more.pool more.posted }; shown = shown_more cell number entries }
 
-module _ (cell : MadeCell) (number blocks : ℕ) (kept : IsKept cell) (there : cell.sizes number ≡ Some blocks) (volume home : ℕ) (homed : cell.homes volume ≡ Some home) (time : ℕ) (ask : Asked) (op : Op)
-    (accepted : accept (sight_of (the_client cell number blocks kept there) volume) volume ask ≡ Ok op) where
-  abbrev client : ClientState
-  client = the_client cell number blocks kept there
+-- an entry of a client that might come, and behind which what the client holds is in order, keeps the cell
+module _ (cell : MadeCell) (number blocks : ℕ) (kept : IsKept cell) (there : cell.sizes number ≡ Some blocks) (entry : ClientEntry) (may : MayEnter cell.acted number entry)
+    (holds : IsHolding (grown cell (at_client number entry)).acted (client_after (the_client cell number blocks kept there) entry)) where
+  abbrev entered : MadeCell
+  entered = grown cell (at_client number entry)
 
+  one_entered : HasMore cell entered number (entry ∷ [])
+  one_entered = has_more cell number (entry ∷ [])
+
+  entry_moved : Moved cell.acted (Does (AtClient number entry) ∷ []) entered.acted
+  entry_moved = ((kept.up.clients number, may), refl)
+
+  entry_made : AreMade entered
+  entry_made = record {
+    numbered = kept.made.numbered;
+    clients = λ c e. ap (λ (a : Actor ClientEntry). a.history) (one_entered.others c (λ same. let no : Some blocks ≡ None = sym (ap cell.sizes same ∙ there) ∙ e in cc)) ∙ kept.made.clients c e;
+    replicas = kept.made.replicas;
+  }
+
+  entry_holding : (c b : ℕ) → cell.sizes c ≡ Some b → IsHolding entered.acted (client_of c (entered.acted.clients c).history b)
+  entry_holding c b e = elim (cases_Bool (c == number)) [
+    | inl same ↦ (let at = eqb-true c number same in
+        let sized : Some blocks ≡ Some b = sym there ∙ ap cell.sizes (sym at) ∙ e in
+        let b_is : blocks ≡ b = cc in
+        subst (λ n. IsHolding entered.acted (client_of n (entered.acted.clients n).history b)) (sym at)
+        (subst (λ x. IsHolding entered.acted (client_of number (entered.acted.clients number).history x)) b_is
+        (subst (IsHolding entered.acted) (sym (ap (λ h. client_of number h blocks) one_entered.here ∙ client_push (new_client number blocks) (cell.acted.clients number).history entry)) holds)))
+    | inr other ↦ (let off : c ≢ number = λ same. false≢true (sym other ∙ eq-eqb c number same) in
+        subst (λ (a : Actor ClientEntry). IsHolding entered.acted (client_of c a.history b)) (sym (one_entered.others c off))
+        (holding_on (Does (AtClient number entry) ∷ []) cell.acted entered.acted (client_of c (cell.acted.clients c).history b) entry_moved (kept.holding c b e)))
+  ]
+
+  pub entry_left : IsLeft cell (at_client number entry ∷ [])
+  entry_left = record {
+    moved = entry_moved;
+    kept = record {
+      sound = runs_sound (Does (AtClient number entry) ∷ []) cell.acted entered.acted kept.sound entry_moved;
+      up = up_all cell (at_client number entry ∷ []) kept.up;
+      made = entry_made;
+      holding = entry_holding;
+      letters = letters_on (Does (AtClient number entry) ∷ []) cell entered kept.sound entry_moved kept.letters refl refl refl;
+    };
+    shown = shown_more cell number (entry ∷ []);
+  }
+
+-- a client that did what one of the cell did, whatever it holds in order, accepts its next operation
+module _ (cell : MadeCell) (number blocks : ℕ) (kept : IsKept cell) (there : cell.sizes number ≡ Some blocks) (client : ClientState) (numbered : client.number ≡ number)
+    (alike : (w : ℕ) → client.volumes w ≡ (the_client cell number blocks kept there).volumes w) (holds : IsHolding cell.acted client) (volume time : ℕ) (ask : Asked) (op : Op)
+    (accepted : accept (sight_of client volume) volume ask ≡ Ok op) where
   abbrev sight : Sight
   sight = sight_of client volume
 
@@ -145,14 +190,11 @@ module _ (cell : MadeCell) (number blocks : ℕ) (kept : IsKept cell) (there : c
   abbrev pub next_operation : Record
   next_operation = next_record (client.volumes volume) time op
 
-  abbrev entry : ClientEntry
-  entry = Did volume (Operated next_operation)
+  abbrev operated : ClientEntry
+  operated = Did volume (Operated next_operation)
 
-  abbrev next : MadeCell
-  next = grown cell (at_client number entry)
-
-  holds : IsHolding cell.acted client
-  holds = kept.holding number blocks there
+  pending_by : (w : ℕ) → pending (client.volumes w) ≡ pending_of (done_on cell.acted number w)
+  pending_by w = ap pending (alike w) ∙ pending_is cell kept number blocks w
 
   relies : Relies sight volume op
   relies = accepted_relies sight volume ask op accepted
@@ -167,7 +209,7 @@ module _ (cell : MadeCell) (number blocks : ℕ) (kept : IsKept cell) (there : c
   shows = shown deeds law
 
   is_left : client.volumes volume ≡ volume_of deeds
-  is_left = volumes_are number blocks (cell.acted.clients number).history volume
+  is_left = alike volume ∙ volumes_are number blocks (cell.acted.clients number).history volume
 
   -- what it creates is its next object
   next_named : (fid : Fid) → creates fid op ≡ true → IsNext volume deeds number op fid
@@ -176,7 +218,7 @@ module _ (cell : MadeCell) (number blocks : ℕ) (kept : IsKept cell) (there : c
       record {
         creates_it = makes;
         here = ap (λ (f : Fid). f.volume) is;
-        own = ap (λ (f : Fid). f.vnode) is ∙ number_stays (new_client number blocks) (cell.acted.clients number).history;
+        own = ap (λ (f : Fid). f.vnode) is ∙ numbered;
         next = ap (λ (f : Fid). f.uniq) is ∙ ap (λ n. n + 1) (ap (λ (v : ClientVolume). v.creations) is_left ∙ shows.creations);
       }
 
@@ -195,56 +237,17 @@ module _ (cell : MadeCell) (number blocks : ℕ) (kept : IsKept cell) (there : c
   may_operate = record {
     next = ap (λ n. n + 1) (ap (λ (v : ClientVolume). v.operations) is_left ∙ shows.operations);
     fresh = next_objects_are_fresh cell.acted number volume op kept.sound (kept.made.numbered number blocks there) next_named;
-    empty = removes_empty sight volume op (pending_of deeds) (subst (AreChildrenKept client.held.nodes) (pending_is cell kept number blocks volume) (holds.kept volume)) relies;
+    empty = removes_empty sight volume op (pending_of deeds) (subst (AreChildrenKept client.held.nodes) (pending_by volume) (holds.kept volume)) relies;
   }
 
-  operation_moved : Moved cell.acted (Does (AtClient number entry) ∷ []) next.acted
-  operation_moved = ((kept.up.clients number, (may_operate, all_named)), refl)
-
-  one : HasMore cell next number (entry ∷ [])
-  one = has_more cell number (entry ∷ [])
-
-  deeds_here : done_on next.acted number volume ≡ deeds ++ Operated next_operation ∷ []
-  deeds_here = done_here cell next number (entry ∷ []) one volume ∙ ap (λ b. deeds ++ (cond b (Operated next_operation ∷ []) [] ++ [])) (eq-eqb volume volume refl)
-
-  -- elsewhere nothing changed
-  deeds_else : (c w : ℕ) → (c ≢ number) ⊎ (w ≢ volume) → done_on next.acted c w ≡ done_on cell.acted c w
-  deeds_else c w (inl other) = done_elsewhere cell next number (entry ∷ []) one c w other
-  deeds_else c w (inr other) = done_same cell next number (entry ∷ []) one c w (elim (cases_Bool (w == volume)) [
-    | inl same ↦ absurd (other (eqb-true w volume same))
-    | inr e ↦ ap (λ b. cond b (Operated next_operation ∷ []) [] ++ []) e
-  ])
-
-  -- what is asked of the course of each volume of each client
-  by_place : (P : ℕ → ℕ → List Deed → Type 0) → P number volume (deeds ++ Operated next_operation ∷ []) → ((c w : ℕ) → P c w (done_on cell.acted c w)) → (c w : ℕ) → P c w (done_on next.acted c w)
-  by_place P here else c w = elim (cases_Bool (c == number)) [
-    | inl same ↦ elim (cases_Bool (w == volume)) [
-      | inl at ↦ subst (λ x. P x w (done_on next.acted x w)) (sym (eqb-true c number same)) (subst (λ x. P number x (done_on next.acted number x)) (sym (eqb-true w volume at)) (subst (P number volume) (sym deeds_here) here))
-      | inr off ↦ subst (P c w) (sym (deeds_else c w (inr (λ at. false≢true (sym off ∙ eq-eqb w volume at))))) (else c w)
-    ]
-    | inr other ↦ subst (P c w) (sym (deeds_else c w (inl (λ same. false≢true (sym other ∙ eq-eqb c number same))))) (else c w)
-  ]
-
-  operation_made : AreMade next
-  operation_made = record {
-    numbered = kept.made.numbered;
-    clients = λ c e. ap (λ (a : Actor ClientEntry). a.history) (one.others c (λ same. let no : Some blocks ≡ None = sym (ap cell.sizes same ∙ there) ∙ e in cc)) ∙ kept.made.clients c e;
-    replicas = kept.made.replicas;
-  }
-
-  made_before : (fid : Fid) → IsMade fid.volume (done_on cell.acted fid.vnode fid.volume) fid → IsMade fid.volume (done_on next.acted fid.vnode fid.volume) fid
-  made_before fid made = made_stays (Does (AtClient number entry) ∷ []) cell.acted next.acted operation_moved fid.vnode fid.volume fid made
-
-  made_now : (fid : Fid) → creates fid op ≡ true → IsMade fid.volume (done_on next.acted fid.vnode fid.volume) fid
-  made_now fid makes =
-      let n = next_named fid makes in
-      subst (λ v. IsMade v (done_on next.acted fid.vnode v) fid) (sym n.here)
-      (subst (λ c. IsMade volume (done_on next.acted c volume) fid) (sym n.own) (subst (λ ds. IsMade volume ds fid) (sym deeds_here) (next_made volume deeds number next_operation fid n)))
+  -- it might come
+  pub operation_may : MayEnter cell.acted number (Did volume (Operated next_operation))
+  operation_may = (may_operate, all_named)
 
   -- what is pending of a volume mentions objects of that volume alone
   named_on : (w : ℕ) (test : Op → Bool) (fid : Fid) → ((o : Op) → test o ≡ true → mentioning fid o ≡ true) → any_record test (pending (client.volumes w)) ≡ true → fid.volume ≡ w
   named_on w test fid mentions passes =
-      let rec = some_record test (pending_of (done_on cell.acted number w)) (ap (any_record test) (sym (pending_is cell kept number blocks w)) ∙ passes) in
+      let rec = some_record test (pending_of (done_on cell.acted number w)) (ap (any_record test) (sym (pending_by w)) ∙ passes) in
       ((kept.sound.agree none_joins).made number w rec.0 (in_above (course_of (done_on cell.acted number w)).done rec.0 (full_of (done_on cell.acted number w)) rec.1) fid (mentions rec.0.op rec.2)).0
 
   -- an object that a run of another volume created isn't taken from where it is bound
@@ -267,7 +270,7 @@ module _ (cell : MadeCell) (number blocks : ℕ) (kept : IsKept cell) (there : c
   abbrev behind : Held
   behind = record { nodes = applied client.held.nodes client.number next_operation; parents = parents_after client.held.parents op }
 
-  dirs : AreDirs client.held
+  dirs : ParentsAreDirs client.held
   dirs = dirs_under client.held holds.under
 
   beside_gone : IsBeside client.held.parents op
@@ -286,42 +289,52 @@ module _ (cell : MadeCell) (number blocks : ℕ) (kept : IsKept cell) (there : c
             false≢true (sym off ∙ eq-eqb w volume same))
       ] refl
 
-  operation_holding : IsHolding next.acted (client_after client entry)
-  operation_holding = record {
-    under = under_operation sight volume client.number next_operation relies beside_gone (λ fid mentions. (names fid mentions).0) holds.forest holds.under;
-    forest = forest_operation sight volume client.number next_operation relies (accepted_apart sight volume ask op accepted) beside_gone holds.forest;
-    within = λ dir kid name is. within_operation client.held.nodes volume client.number next_operation holds.within (λ fid mentions. (names fid mentions).0) dir kid name (bound_with gone client.held.parents behind dir kid name is);
-    made = λ fid is. elim (has_operation client.held.nodes client.number next_operation fid (had_with gone client.held.parents behind fid is)) [ inl old ↦ made_before fid (holds.made fid old) | inr new ↦ made_now fid new ];
-    named = λ dir kid name is. elim (bound_before client.held.nodes client.number next_operation dir name kid (bound_with gone client.held.parents behind dir kid name is)) [
-      | inl was ↦ made_before kid (holds.named dir kid name was)
-      | inr anew ↦ elim (names kid (bound_is_named op dir name kid anew).1).1 [ inl held ↦ made_before kid (holds.made kid held) | inr new ↦ made_now kid new.0 ]
-    ];
-    kept = λ w. kept_children_going gone client.held.parents behind (pending (put client.volumes volume (volume_after (client.volumes volume) (Operated next_operation)) w)) (operation_kept w) (made_stay w);
-  }
+  -- and behind it what the client holds is in order, whatever else happened at once
+  module _ (moves : List Move) (new : PlainCell) (moved_on : Moved cell.acted moves new) (here : done_on new number volume ≡ deeds ++ Operated next_operation ∷ []) where
+    made_before : (fid : Fid) → IsMade fid.volume (done_on cell.acted fid.vnode fid.volume) fid → IsMade fid.volume (done_on new fid.vnode fid.volume) fid
+    made_before fid made = made_stays moves cell.acted new moved_on fid.vnode fid.volume fid made
 
-  all_holding : (c b : ℕ) → cell.sizes c ≡ Some b → IsHolding next.acted (client_of c (next.acted.clients c).history b)
-  all_holding c b e = elim (cases_Bool (c == number)) [
-    | inl same ↦ (let at = eqb-true c number same in
-        let sized : Some blocks ≡ Some b = sym there ∙ ap cell.sizes (sym at) ∙ e in
-        let b_is : blocks ≡ b = cc in
-        subst (λ n. IsHolding next.acted (client_of n (next.acted.clients n).history b)) (sym at)
-        (subst (λ x. IsHolding next.acted (client_of number (next.acted.clients number).history x)) b_is
-        (subst (IsHolding next.acted) (sym (ap (λ h. client_of number h blocks) one.here ∙ client_push (new_client number blocks) (cell.acted.clients number).history entry)) operation_holding)))
-    | inr other ↦ (let off : c ≢ number = λ same. false≢true (sym other ∙ eq-eqb c number same) in
-        subst (λ (a : Actor ClientEntry). IsHolding next.acted (client_of c a.history b)) (sym (one.others c off))
-        (holding_on (Does (AtClient number entry) ∷ []) cell.acted next.acted (client_of c (cell.acted.clients c).history b) operation_moved (kept.holding c b e)))
-  ]
+    made_now : (fid : Fid) → creates fid op ≡ true → IsMade fid.volume (done_on new fid.vnode fid.volume) fid
+    made_now fid makes =
+        let n = next_named fid makes in
+        subst (λ v. IsMade v (done_on new fid.vnode v) fid) (sym n.here)
+        (subst (λ c. IsMade volume (done_on new c volume) fid) (sym n.own) (subst (λ ds. IsMade volume ds fid) (sym here) (next_made volume deeds number next_operation fid n)))
+
+    pub operation_holding : IsHolding new (client_after client (Did volume (Operated next_operation)))
+    operation_holding = record {
+      under = under_operation sight volume client.number next_operation relies beside_gone (λ fid mentions. (names fid mentions).0) holds.forest holds.under;
+      forest = forest_operation sight volume client.number next_operation relies (accepted_apart sight volume ask op accepted) beside_gone holds.forest;
+      within = λ dir kid name is. within_operation client.held.nodes volume client.number next_operation holds.within (λ fid mentions. (names fid mentions).0) dir kid name (bound_with gone client.held.parents behind dir kid name is);
+      made = λ fid is. elim (has_operation client.held.nodes client.number next_operation fid (had_with gone client.held.parents behind fid is)) [ inl old ↦ made_before fid (holds.made fid old) | inr new ↦ made_now fid new ];
+      named = λ dir kid name is. elim (bound_before client.held.nodes client.number next_operation dir name kid (bound_with gone client.held.parents behind dir kid name is)) [
+        | inl was ↦ made_before kid (holds.named dir kid name was)
+        | inr anew ↦ elim (names kid (bound_is_named op dir name kid anew).1).1 [ inl held ↦ made_before kid (holds.made kid held) | inr new ↦ made_now kid new.0 ]
+      ];
+      kept = λ w. kept_children_going gone client.held.parents behind (pending (put client.volumes volume (volume_after (client.volumes volume) (Operated next_operation)) w)) (operation_kept w) (made_stay w);
+    }
+
+module _ (cell : MadeCell) (number blocks : ℕ) (kept : IsKept cell) (there : cell.sizes number ≡ Some blocks) (volume home : ℕ) (homed : cell.homes volume ≡ Some home) (time : ℕ) (ask : Asked) (op : Op)
+    (accepted : accept (sight_of (the_client cell number blocks kept there) volume) volume ask ≡ Ok op) where
+  abbrev the_record : Record
+  the_record = next_record ((the_client cell number blocks kept there).volumes volume) time op
+
+  abbrev entry : ClientEntry
+  entry = Did volume (Operated the_record)
+
+  abbrev next : MadeCell
+  next = grown cell (at_client number entry)
+
+  own_number : (the_client cell number blocks kept there).number ≡ number
+  own_number = number_stays (new_client number blocks) (cell.acted.clients number).history
+
+  may_enter : MayEnter cell.acted number entry
+  may_enter = operation_may cell number blocks kept there (the_client cell number blocks kept there) own_number (λ w. refl) (kept.holding number blocks there) volume time ask op accepted
+
+  deeds_here : done_on next.acted number volume ≡ done_on cell.acted number volume ++ Operated the_record ∷ []
+  deeds_here = done_here cell next number (entry ∷ []) (has_more cell number (entry ∷ [])) volume ∙ ap (λ b. done_on cell.acted number volume ++ (cond b (Operated the_record ∷ []) [] ++ [])) (eq-eqb volume volume refl)
 
   -- a client accepts its next operation
-  pub operated_left : IsLeft cell (at_client number entry ∷ [])
-  operated_left = record {
-    moved = operation_moved;
-    kept = record {
-      sound = runs_sound (Does (AtClient number entry) ∷ []) cell.acted next.acted kept.sound operation_moved;
-      up = up_all cell (at_client number entry ∷ []) kept.up;
-      made = operation_made;
-      holding = all_holding;
-      letters = letters_on (Does (AtClient number entry) ∷ []) cell next kept.sound operation_moved kept.letters refl refl refl;
-    };
-    shown = shown_more cell number (entry ∷ []);
-  }
+  pub operated_left : IsLeft cell (at_client number (Did volume (Operated the_record)) ∷ [])
+  operated_left = entry_left cell number blocks kept there entry may_enter
+      (operation_holding cell number blocks kept there (the_client cell number blocks kept there) own_number (λ w. refl) (kept.holding number blocks there) volume time ask op accepted (Does (AtClient number entry) ∷ []) next.acted
+      ((kept.up.clients number, may_enter), refl) deeds_here)

@@ -11,7 +11,8 @@ use Rattle.coda_plain.specs.Cell.{ClientEntry, Did, Actor}
 use Rattle.coda_plain.specs.Moves.{Move, AtClient, AtReplica, Does, done_on, IsSent, IsBacked, Moved, grown as grown_actor}
 use Rattle.coda_plain.proofs.Soundness.{none_joins, runs_sound}
 use Rattle.coda_cell.specs.State.{pending, ClientState, new_client, client_after, Event, Entered, at_client}
-use Rattle.coda_cell.specs.Held.{AreUnderDirs, IsForest, held_after_deed}
+use Rattle.coda_histories.specs.Forests.{IsForest}
+use Rattle.coda_cell.specs.Held.{AreUnderDirs, held_after_deed}
 use Rattle.coda_venus.specs.Held.{Held}
 use Rattle.coda_cell.specs.Kept.{AreWithin, AreChildrenKept, IsHolding}
 use Rattle.coda_cell.specs.Made.{MadeCell, client_of, grown}

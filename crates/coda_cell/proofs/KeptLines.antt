@@ -25,7 +25,8 @@ use Rattle.coda_plain.specs.Moves.{done_on}
 use Rattle.coda_plain.proofs.Soundness.{none_joins}
 use Rattle.coda_plain.proofs.Volumes.{volumes}
 use Rattle.coda_venus.specs.Ask.{Asked, Create, Mkdir, Symlink, Store, Setattr, Remove, Rmdir, Rename, too_big, object_of}
-use Rattle.coda_cell.specs.Held.{Fetch, AreUnderDirs, IsForest, held_after_fetches}
+use Rattle.coda_histories.specs.Forests.{IsForest}
+use Rattle.coda_cell.specs.Held.{Fetch, AreUnderDirs, held_after_fetches}
 use Rattle.coda_venus.specs.Held.{Held, held_after_fetch}
 use Rattle.coda_cell.specs.Looking.{look, look_along, fetched, entries_of}
 use Rattle.coda_cell.specs.State.{pending, ClientState, new_client, ReplicaState, new_replica, Event, VolumeMade, ClientMade, Ticked, LinkSet, Lost, at_client}
@@ -382,7 +383,8 @@ module _ (cell : MadeCell) (kept : IsKept cell) where
       by None e = refl
       by (Some blocks) e = cc
 
-  line_left : (said : Line) (reply : Reply) (events : List Event) → MakesNumbered said → Does (state_of cell) said reply events → AreLeft cell events
+  -- so do the events of a line, each in turn
+  pub line_left : (said : Line) (reply : Reply) (events : List Event) → MakesNumbered said → Does (state_of cell) said reply events → AreLeft cell events
   line_left (line.Volume volume servers area) reply events numbered does = unless_own (no_volume (state_of cell) volume) _ reply events (λ free did.
       subst (AreLeft cell) (sym did.1) (are_left_one cell (VolumeMade volume (alone servers)) (volume_left cell volume (alone servers) kept (no_home volume (not_there (is_some ((state_of cell).replicas volume)) _ free))))) does
   line_left (line.Client client blocks area) reply events numbered does = unless_own (no_client (state_of cell) client) _ reply events (λ free did.

@@ -1,7 +1,6 @@
 pub mod Families
 pub mod LightLogs
 pub mod Fetches
-pub mod Apart
 pub mod Going
 pub mod Forests
 pub mod AfterOperations
@@ -27,7 +26,6 @@ pub mod KeptDeeds
 pub mod KeptChunks
 pub mod KeptLetters
 pub mod KeptLines
-pub mod AlikeStates
 pub mod Decided
 pub mod SpelledFolds
 pub mod SpelledDecisions

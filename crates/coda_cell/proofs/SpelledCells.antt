@@ -37,7 +37,8 @@ use Rattle.coda_cell.specs.State.{ClientState, new_client}
 use Rattle.coda_cell.specs.Made.{client_of}
 use Rattle.coda_spelling.specs.Spelled.{IsSpelled, AreSpelled, AreAllSpelled}
 use Rattle.coda_cell.specs.Spelled.{IsReplicaSpelled, DidSpelled}
-use Rattle.coda_cell.proofs.Going.{left_was, bound_with}
+use Rattle.coda_histories.proofs.Ways.{left_was}
+use Rattle.coda_cell.proofs.Going.{bound_with}
 use Rattle.coda_cell.proofs.Histories.{client_push, number_stays}
 use Rattle.coda_cell.proofs.SpelledFolds.{all_spelled, sent_spelled}
 use Rattle.coda_cell.proofs.SpelledDecisions.{after_decision, room_decided, verdict_spelled}

@@ -1,10 +1,9 @@
--- What a client of a cell holds: a forest, and what entries of its history leave of it.
-use Rattle.std.specs.Prelude.{ℕ, ◌<◌, true, List, [], ◌∷◌, Option, Some, ◌≡◌}
+-- What a client of a cell holds, and what entries of its history leave of it.
+use Rattle.std.specs.Prelude.{ℕ, List, [], ◌∷◌, Option, Some, ◌≡◌}
 use Rattle.std.specs.FinMap as map
 use Rattle.coda_fid.specs.declared.fid.Fid.{Fid}
-use Rattle.coda_fid.specs.declared.op.Record.{Record}
 use Rattle.coda_tree.specs.declared.node.Node.{Node}
-use Rattle.coda_tree.specs.Volume.{has, IsDirAt}
+use Rattle.coda_tree.specs.Volume.{IsDirAt}
 use Rattle.coda_plain.specs.Cell.{ClientEntry, Fetched, Did, Dropping}
 use Rattle.coda_plain.specs.Deeds.{Deed, Operated, Froze, Settled, Gaveup}
 use Rattle.coda_venus.specs.Held.{Held, held_after_operation, held_after_fetch}
@@ -12,14 +11,6 @@ use Rattle.coda_venus.specs.Held.{Held, held_after_operation, held_after_fetch}
 -- the parent of each object is a directory that is held, of the object's volume
 abbrev pub AreUnderDirs : Held → Type 0
 AreUnderDirs held = (f p : Fid) → map.get held.parents f ≡ Some p → IsDirAt held.nodes p × (f.volume ≡ p.volume)
-
--- What is held is a forest: each object with a parent is held, and so is its parent, which stands less deep, so that each way up ends.
-pub record IsForest (held : Held) : Type 0 where
-  pub kids : (f p : Fid) → map.get held.parents f ≡ Some p → has held.nodes f ≡ true
-  pub parents : (f p : Fid) → map.get held.parents f ≡ Some p → has held.nodes p ≡ true
-  -- how many directories are above an object
-  pub depth : Fid → ℕ
-  pub deeper : (f p : Fid) → map.get held.parents f ≡ Some p → depth p < depth f
 
 -- ---- what entries leave
 

@@ -8,7 +8,8 @@ use Rattle.coda_cml.specs.Steady.{any_record, makes_in, unbinds}
 use Rattle.coda_plain.specs.Deeds.{IsMade}
 use Rattle.coda_plain.specs.Cell.{PlainCell}
 use Rattle.coda_plain.specs.Moves.{done_on}
-use Rattle.coda_cell.specs.Held.{AreUnderDirs, IsForest}
+use Rattle.coda_histories.specs.Forests.{IsForest}
+use Rattle.coda_cell.specs.Held.{AreUnderDirs}
 use Rattle.coda_cell.specs.State.{pending, ClientState}
 
 -- a directory binds objects of its own volume alone

@@ -16,7 +16,7 @@ use Rattle.coda_venus.proofs.Accepted.{Relies, accepted_relies}
 use Rattle.coda_cell.specs.Accepting.{sight_of}
 use Rattle.coda_cell.specs.Held.{held_after_deed, held_after_drops, held_after}
 use Rattle.coda_cell.specs.State.{ClientState, client_after, client_after_all}
-use Rattle.coda_cell.proofs.Going.{left_was}
+use Rattle.coda_histories.proofs.Ways.{left_was}
 use Rattle.coda_creations.specs.Kinds.{Kind, kind_of, kind_in, kind_at, makes, ClientsKeepKinds}
 use Rattle.coda_creations.proofs.KindsKept.{GoesByDirs, node_there, put_kind, take_kind, kind_operated}
 

@@ -3,10 +3,11 @@ use Rattle.std.proofs.Common.{◌≡◌, ℕ, List, [], ◌∷◌, Option, Some,
 use Rattle.coda_journal.specs.declared.header.Header.{Header}
 use Rattle.coda_plain.specs.Cell.{ClientEntry}
 use Rattle.coda_plain.proofs.Soundness.{none_joins}
-use Rattle.coda_cell.specs.Held.{IsForest, held_after}
+use Rattle.coda_histories.specs.Forests.{IsForest}
+use Rattle.coda_cell.specs.Held.{held_after}
 use Rattle.coda_cell.specs.Made.{client_of}
 use Rattle.coda_cell.specs.State.{ClientState, new_client, client_after, client_after_all}
-use Rattle.coda_cell.proofs.Forests.{forest_none}
+use Rattle.coda_histories.proofs.Forests.{forest_none}
 use Rattle.coda_shelves.specs.Cells.{Cell, asked, state_of}
 use Rattle.coda_shelves.specs.Running.{IsKept}
 use Rattle.coda_runs.specs.Caches.{CachesAreForests}

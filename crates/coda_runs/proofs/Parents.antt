@@ -13,7 +13,8 @@ use Rattle.coda_tree.proofs.Parents.{parent_sound}
 use Rattle.coda_venus.specs.Held.{Held, held_after_fetch}
 use Rattle.coda_cell.specs.Held.{held_after_fetches}
 use Rattle.coda_cell.specs.Looking.{offered, fetch_of, looked}
-use Rattle.coda_cell.proofs.Fetches.{some_fid, child_fetched}
+use Rattle.coda_histories.proofs.Ways.{some_fid}
+use Rattle.coda_cell.proofs.Fetches.{child_fetched}
 
 -- Of what was held, each object is held by the parent that it had; and each other parent binds its object.
 pub record KeepsParents (old h : Held) : Type 0 where

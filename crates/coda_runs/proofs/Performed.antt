@@ -49,11 +49,6 @@ ends_so (name ∷ other ∷ names) e h = by (ending (other ∷ names)) (ends_so 
 abbrev pub the_end : (m : Nodes) (volume : ℕ) (path : List Name) (e : List Name × Name) (dir : Fid) → ending path ≡ Some e → resolve m (root_of volume) e.0 ≡ Ok dir → End m volume path
 the_end m volume path e dir is leads_to = record { front = e.0; last = e.1; dir = dir; is = ends_so path e is; leads = leads m (root_of volume) e.0 dir leads_to }
 
--- a node that is there
-the_node : (o : Option Node) → is_some o ≡ true → (node : Node) × (o ≡ Some node)
-the_node None h = cc
-the_node (Some node) h = (node, refl)
-
 -- ---- creations
 
 -- a creation that is accepted: where its path ends, and what it is

@@ -1,6 +1,6 @@
 -- What clients cache.
 use Rattle.std.specs.Prelude.{◌≡◌, ℕ, Some}
-use Rattle.coda_cell.specs.Held.{IsForest}
+use Rattle.coda_histories.specs.Forests.{IsForest}
 use Rattle.coda_cell.specs.State.{ClientState}
 use Rattle.coda_shelves.specs.Cells.{state_of}
 use Rattle.coda_runs.specs.Headline.{InEachKept}
