@@ -1,0 +1,12 @@
+pub mod AsClients
+pub mod Sources
+pub mod Parts
+pub mod Besides
+pub mod Steps
+pub mod Holding
+pub mod Entries
+pub mod Calls
+pub mod Others
+pub mod OtherLines
+pub mod Lines
+pub mod Staling

@@ -1,0 +1,4 @@
+pub mod Clients
+pub mod Lines
+pub mod Working
+pub mod Staling
