@@ -58,18 +58,6 @@ changed_fits kept found = (ap (λ b. sid_fits kept && b) (and_all (sid_fits foun
 
 -- ---- answers
 
-pub number_within : (n : ℕ) → number_fits n ≡ true → (1 ≤ n) × (n ≤ 4294967295)
-number_within n fits = is_within 1 4294967295 eight n fits
-
-pub within_number : (n : ℕ) → 1 ≤ n → n ≤ 4294967295 → number_fits n ≡ true
-within_number n some few = within 1 4294967295 eight n some few (omega (arith, few))
-
-pub last_within : (n : ℕ) → last_fits n ≡ true → n ≤ 4294967295
-last_within n fits = (is_within 0 4294967295 eight n fits).1
-
-pub within_last : (n : ℕ) → n ≤ 4294967295 → last_fits n ≡ true
-within_last n few = within 0 4294967295 eight n (omega arith) few (omega (arith, few))
-
 pub applied_fits : answer_fits Applied ≡ true
 unfolding table.answer
 applied_fits = refl

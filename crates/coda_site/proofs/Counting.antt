@@ -222,14 +222,6 @@ same_slots told faults arms df da s t clients replicas = record_eq
 
 -- ---- lines
 
-pub line_counted : (said named : Line) (result : Result Reply CellFault) (old new : Counts) → said ≡ named → IsCounted (IsFault result) (has_armed named result) old new → IsCounted (IsFault result) (has_armed said result) old new
-line_counted said named result old new is c = subst (λ (l : Line). IsCounted (IsFault result) (has_armed l result) old new) (sym is) c
-
--- a reply by which nothing was armed
-pub not_armed : (said reply : Reply) (x : Counts) → said ≡ reply → is_ok (Ok reply) ≡ false → ¬ IsFault (Ok reply) → IsCounted (IsFault (Ok said)) (is_ok (Ok said)) x x
-not_armed said reply x is other fine =
-    subst (λ (r : Reply). IsCounted (IsFault (Ok r)) (is_ok (Ok r)) x x) (sym is) (subst (λ (b : Bool). IsCounted (IsFault (Ok reply)) b x x) (sym other) (unchanged (IsFault (Ok reply)) x fine))
-
 -- ---- at the end
 
 pub closed : {D : Type 0} (told : D → Told) (count : D → ℕ) (site : Site D) (sum0 sum1 sum2 : ℕ) → sum1 ≡ sum_all (client_form told) count site.clients.entries sum0 → sum2 ≡ sum_all (replica_form told) count site.replicas.entries sum1 → plus sum2 0 ≡ total told count sum0 site

@@ -201,14 +201,6 @@ forgotten_place false new old mid is = is
 
 -- ---- what a line names
 
-pub area_between : (area : Option ℕ) → IfSome area (IsBetween 1 64) → (1 ≤ unwrap_or area 8) × (unwrap_or area 8 ≤ 64)
-area_between None is = (omega arith, omega arith)
-area_between (Some area) is = is
-
-pub alone_between : (servers : List ℕ) → AreServers servers → (1 ≤ alone servers) × (alone servers ≤ 8)
-alone_between [] is = absurd is
-alone_between (server ∷ more) is = is.0
-
 -- ---- an actor that was opened
 
 pub up_made : {A D : Type 0} (form : Form A D) (slot : Slot A D) → is_up form slot ≡ true → is_made slot ≡ true
