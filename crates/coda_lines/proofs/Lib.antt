@@ -10,3 +10,4 @@ pub mod Others
 pub mod OtherLines
 pub mod Lines
 pub mod Staling
+pub mod Emulating

@@ -2,3 +2,4 @@ pub mod Clients
 pub mod Lines
 pub mod Working
 pub mod Staling
+pub mod Emulating

@@ -4,6 +4,7 @@
 
 ghost use Rattle.coda_lines.specs.Working.{LinesKeepCellsWorking, ReachedCachesAreInOrder, CallsLeaveWhatStepsLeave};
 ghost use Rattle.coda_lines.specs.Staling.{AppliedChunksLeaveNoCopies};
+ghost use Rattle.coda_lines.specs.Emulating.{ClientsEmulateWhenCutOff};
 
 /// A law of lines: in a cell whose clients serve what they may and fetch in rounds, whatever a line does might happen
 /// to the actors, keeps the cell, and leaves each client ready for its next call; also a line that is stopped in front
@@ -28,4 +29,10 @@ pub fn calls_leave_what_steps_leave()
 /// mentioned, and each other copy that it had; a conflict leaves all copies.
 pub fn applied_chunks_leave_no_copies()
     ensures { AppliedChunksLeaveNoCopies }
+{}
+
+/// A law of states: a client emulates the server of a volume while its link to the server is down, and can then fetch
+/// nothing of the volume; over any other link it doesn't, and it can fetch what the replica has.
+pub fn clients_emulate_when_cut_off()
+    ensures { ClientsEmulateWhenCutOff }
 {}
