@@ -30,7 +30,7 @@ mod settling;
 mod venus;
 mod volume_log;
 
-pub use ask::Ask;
+pub use ask::{Ask, object_of, too_big};
 pub use client::Client;
 pub use done::Done;
 pub use law::{clients_stay_ours, logs_are_folds};
