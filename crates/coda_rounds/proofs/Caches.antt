@@ -80,7 +80,7 @@ left_parents : (c : ClientState) (gone : List Fid) → (left_of c gone).held.par
 left_parents c [] = refl
 left_parents c (g ∷ gone) = left_parents (client_after c (entry.Dropped g)) gone
 
-left_blocks : (c : ClientState) (gone : List Fid) → (left_of c gone).blocks ≡ c.blocks
+pub left_blocks : (c : ClientState) (gone : List Fid) → (left_of c gone).blocks ≡ c.blocks
 left_blocks c [] = refl
 left_blocks c (g ∷ gone) = left_blocks (client_after c (entry.Dropped g)) gone
 

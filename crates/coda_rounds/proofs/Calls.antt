@@ -43,26 +43,27 @@ led_placed emulating s fid (inr by) absent =
     let binds : child s.client.held.nodes by.0 by.1 ≡ Some fid = ap (λ o. child_of o by.1) (was ∙ sym there.1) ∙ by.2 in
     inr (ap is_some (parent_complete s.client.held.nodes by.0 by.1 fid binds).1)
 
-operating_placed : (o : Option ℕ) (emulating : Bool) (refused : RefusalCause → ℕ) (done : Record → ℕ) (time volume : ℕ) (ask : Asked) (s : ServingClient) (fid : Fid) → (operating_unless o emulating refused done time volume ask s).comes_to ≡ Needs fid → IsPlaced s fid
-operating_placed (Some size) emulating refused done time volume ask s fid h = absurd (cc)
-operating_placed None emulating refused done time volume ask s fid h =
+operating_placed : {A : Type 0} (o : Option ℕ) (emulating : Bool) (refused : RefusalCause → A) (done : Record → A) (time volume : ℕ) (ask : Asked) (s : ServingClient) (fid : Fid) → (operating_unless o emulating refused done time volume ask s).comes_to ≡ Needs fid → IsPlaced s fid
+operating_placed {A} (Some size) emulating refused done time volume ask s fid h = absurd (cc)
+operating_placed {A} None emulating refused done time volume ask s fid h =
     let looked = looked_up_for (served emulating s) volume ask in
-    let n = by_needs ℕ (accepted emulating s time volume ask) emulating refused done (using s looked) volume looked fid h in
+    let n = by_needs A (accepted emulating s time volume ask) emulating refused done (using s looked) volume looked fid h in
     led_placed emulating s fid (needed_objects_are_led_to (sight_of (serving emulating s) volume) volume ask fid
-    (recorded_needs ℕ (s.client.volumes volume) time (accept (sight_of (serving emulating s) volume) volume ask) fid
+    (recorded_needs A (s.client.volumes volume) time (accept (sight_of (serving emulating s) volume) volume ask) fid
     n.1))
 
-operating_place : (emulating : Bool) (refused : RefusalCause → ℕ) (done : Record → ℕ) (time volume : ℕ) (ask : Asked)
-    → NeedsPlaced (operating emulating refused done time volume ask)
-operating_place emulating refused done time volume ask fetched s looked fid h =
+pub operating_place : {A : Type 0} (emulating : Bool) (refused : RefusalCause → A) (done : Record → A)
+    (time volume : ℕ) (ask : Asked) → NeedsPlaced (operating emulating refused done time volume ask)
+operating_place {A} emulating refused done time volume ask fetched s looked fid h =
     operating_placed (too_big ask) emulating refused done time volume ask s fid
-    (ap (λ (t : CallTurn ℕ). t.comes_to) h)
+    (ap (λ (t : CallTurn A). t.comes_to) h)
 
-showing_place : (emulating : Bool) (refused : RefusalCause → ℕ) (show : Bool → Seen → ℕ) (kind : Node → NodeKind → Result Node Refusal) (volume : ℕ) (path : List Name) → RefusesItself kind → NeedsPlaced
-    (showing emulating refused show kind volume path)
-showing_place emulating refused show kind volume path itself fetched s looked fid h =
-    let n = showing_needs ℕ (seen_at kind (served emulating s) volume path) emulating refused show fetched fid (ap (λ (t : CallTurn ℕ). t.comes_to) h) in
-    led_placed emulating s fid (seen_needs ℕ kind itself (served emulating s) volume path fid n.1).1
+pub showing_place : {A : Type 0} (emulating : Bool) (refused : RefusalCause → A) (show : Bool → Seen → A)
+    (kind : Node → NodeKind → Result Node Refusal) (volume : ℕ) (path : List Name) → RefusesItself kind
+    → NeedsPlaced (showing emulating refused show kind volume path)
+showing_place {A} emulating refused show kind volume path itself fetched s looked fid h =
+    let n = showing_needs A (seen_at kind (served emulating s) volume path) emulating refused show fetched fid (ap (λ (t : CallTurn A). t.comes_to) h) in
+    led_placed emulating s fid (seen_needs A kind itself (served emulating s) volume path fid n.1).1
 
 -- ---- what a call does as it answers
 

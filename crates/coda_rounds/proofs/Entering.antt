@@ -44,13 +44,13 @@ from_put f blocks (x ∷ xs) i (inl same) = (
 from_put f blocks (x ∷ xs) i (inr more) =
     (let j = from_put f blocks xs i more in (j.0, inr j.1, j.2, j.3))
 
-into_put : (f : Fid) (blocks : ℕ) (xs : List Item) (i : Item) → Among i xs
+pub into_put : (f : Fid) (blocks : ℕ) (xs : List Item) (i : Item) → Among i xs
     → Among (item_after f blocks i) (prelude.map (item_after f blocks) xs)
 into_put f blocks [] i h = absurd h
 into_put f blocks (x ∷ xs) i (inl same) = inl (ap (item_after f blocks) same)
 into_put f blocks (x ∷ xs) i (inr more) = inr (into_put f blocks xs i more)
 
-in_front : (xs ys : List Item) (i : Item) → Among i xs → Among i (xs ++ ys)
+pub in_front : (xs ys : List Item) (i : Item) → Among i xs → Among i (xs ++ ys)
 in_front [] ys i h = absurd h
 in_front (x ∷ xs) ys i (inl same) = inl same
 in_front (x ∷ xs) ys i (inr more) = inr (in_front xs ys i more)

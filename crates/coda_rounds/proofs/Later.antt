@@ -16,7 +16,7 @@ use Rattle.coda_cache.specs.Steps.{new_node}
 use Rattle.coda_record.specs.declared.entry.ClientEntry.{ClientEntry}
 use Rattle.coda_record.specs.declared.entry.ClientEntry.TheVariants as entry
 use Rattle.coda_venus.specs.Accepting.{next_fid, sight_of}
-use Rattle.coda_venus.specs.History.{MayEnter, MayEnterAll, MayOperate}
+use Rattle.coda_venus.specs.History.{Payload, MayEnter, MayEnterAll, MayOperate}
 use Rattle.coda_venus.specs.State.{ClientVolume, ClientState, put, client_after, client_after_all}
 use Rattle.coda_venus.proofs.Accepted.{accepted_relies}
 use Rattle.coda_venus.specs.Serving.{ServingClient}
@@ -64,6 +64,54 @@ makes_one (Remove d name g pre) dir f e = absurd (none-some (dir, f) e)
 makes_one (Rmdir d name g pre) dir f e = absurd (none-some (dir, f) e)
 makes_one (Rename d name to_dir to g over) dir f e = absurd (none-some (dir, f) e)
 
+-- ---- what a client would create later behind an entry it would create later before it
+
+module _ (c : ClientState) (at : ℕ) (rec : Record) where
+  abbrev operated_client : ClientState
+  operated_client = client_after c (entry.Op at rec)
+
+  operated_counts : (operated_client.volumes at).creations ≡ (c.volumes at).creations + created_by rec.op
+  operated_counts = ap (λ (v : ClientVolume). v.creations) (count_here c.volumes at _)
+
+  operated_later : (volume : ℕ) (f : Fid) → IsLater operated_client volume f → IsLater c volume f
+  operated_later volume f later = (
+    later.0,
+    later.1,
+    count_more c.volumes at (operated_client.volumes at) (created_by rec.op) volume f.uniq operated_counts
+        (subst (λ (v : ClientVolume). v.creations < f.uniq) same later.2),
+  )
+    where
+      same : operated_client.volumes volume ≡ put c.volumes at (operated_client.volumes at) volume
+      same = ap (λ (v : ClientVolume). put c.volumes at v volume) (sym (count_here c.volumes at _))
+
+-- a deed that creates nothing
+alike_later : (c other : ClientState) (volume : ℕ) (f : Fid) → other.number ≡ c.number
+    → (other.volumes volume).creations ≡ (c.volumes volume).creations → IsLater other volume f → IsLater c volume f
+alike_later c other volume f number count later =
+    (later.0, later.1 ∙ number, subst (λ n. n < f.uniq) count later.2)
+
+later_before : (c : ClientState) (next : ClientEntry) (volume : ℕ) (f : Fid) → IsLater (client_after c next) volume f
+    → IsLater c volume f
+later_before c (entry.Op at rec) volume f later = operated_later c at rec volume f later
+later_before c (entry.Freeze at number home last_one) volume f later =
+    alike_later c (client_after c (entry.Freeze at number home last_one)) volume f refl
+    (count_same c.volumes at _ volume refl) later
+later_before c (entry.Settled at number verdict) volume f later =
+    alike_later c (client_after c (entry.Settled at number verdict)) volume f refl
+    (count_same c.volumes at _ volume refl) later
+later_before c (entry.Giveup at) volume f later =
+    alike_later c (client_after c (entry.Giveup at)) volume f refl (count_same c.volumes at _ volume refl) later
+later_before c (entry.Fetched fid parent node) volume f later = later
+later_before c (entry.Dropped fid) volume f later = later
+later_before c (entry.Hoard change) volume f later = later
+later_before c (entry.Snapshot snapshot) volume f later = later
+
+pub later_before_all : (c : ClientState) (entries : Payload) (volume : ℕ) (f : Fid)
+    → IsLater (client_after_all c entries) volume f → IsLater c volume f
+later_before_all c [] volume f later = later
+later_before_all c (next ∷ entries) volume f later =
+    later_before c next volume f (later_before_all (client_after c next) entries volume f later)
+
 -- ---- an entry
 
 not_there : (o : Option Node) → (is_some o ≡ true → ⊥) → o ≡ None
@@ -77,18 +125,7 @@ module _ (sources : Sources) (c : ClientState) (volume : ℕ) (free : AreLaterFr
     behind = client_after c (entry.Op at rec)
 
     was_later : (f : Fid) → IsLater behind volume f → IsLater c volume f
-    was_later f later = (
-      later.0,
-      later.1,
-      count_more c.volumes at (behind.volumes at) (created_by rec.op) volume f.uniq counted
-          (subst (λ (v : ClientVolume). v.creations < f.uniq) same later.2),
-    )
-      where
-        counted : (behind.volumes at).creations ≡ (c.volumes at).creations + created_by rec.op
-        counted = ap (λ (v : ClientVolume). v.creations) (count_here c.volumes at _)
-
-        same : behind.volumes volume ≡ put c.volumes at (behind.volumes at) volume
-        same = ap (λ (v : ClientVolume). put c.volumes at v volume) (sym (count_here c.volumes at _))
+    was_later f later = operated_later c at rec volume f later
 
     made_counts : (f dir : Fid) → IsLater behind volume f → new_node rec.op ≡ Some (dir, f) → ⊥
     made_counts f dir later made =
@@ -118,7 +155,7 @@ module _ (sources : Sources) (c : ClientState) (volume : ℕ) (free : AreLaterFr
   }
     where
       was : (f : Fid) → IsLater other volume f → IsLater c volume f
-      was f later = (later.0, later.1 ∙ number, subst (λ n. n < f.uniq) count later.2)
+      was f later = alike_later c other volume f number count later
 
   pub later_entered : (next : ClientEntry) → MayEnter c next → ComesFrom sources next
       → AreLaterFree sources (client_after c next) volume
@@ -159,7 +196,7 @@ later_stepped sources s (Installed gone fid parent node server) volume free may 
 later_stepped sources s (Performed gone at rec) volume free may comes =
     behind_drops sources s.client volume gone (entry.Op at rec) free may tt
 
-next_later : (c : ClientState) (volume : ℕ) → IsLater c volume (next_fid (sight_of c volume) volume)
+pub next_later : (c : ClientState) (volume : ℕ) → IsLater c volume (next_fid (sight_of c volume) volume)
 next_later c volume = (refl, refl, omega arith)
 
 pub later_objects_stay_free : LaterObjectsStayFree

@@ -183,7 +183,7 @@ module _ (emulating : Bool) (s : ServingClient) (volume : ℕ) (ask : Asked) (op
 -- ---- the law
 
 -- what was recorded was accepted
-was_accepted : (v : ClientVolume) (time : ℕ) (r : Accepted) (rec : Record) → recorded v time r ≡ Ok rec
+pub was_accepted : (v : ClientVolume) (time : ℕ) (r : Accepted) (rec : Record) → recorded v time r ≡ Ok rec
     → (op : Op) × (r ≡ Ok op) × (record_of v time op ≡ rec)
 was_accepted v time (Err why) rec h = absurd (cc)
 was_accepted v time (Ok op) rec h = (op, refl, cc)

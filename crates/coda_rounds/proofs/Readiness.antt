@@ -28,6 +28,7 @@ use Rattle.coda_rounds.proofs.Later.{later_objects_stay_free}
 use Rattle.coda_rounds.proofs.NewClient.{in_order, no_parent}
 use Rattle.coda_rounds.proofs.Orders.{forest_of, steps_leave_order}
 use Rattle.coda_rounds.proofs.Places.{objects_stand_where_made}
+use Rattle.coda_rounds.proofs.Uncopied.{uncopied_on, uncopied_accepted}
 use Rattle.coda_rounds.proofs.Volumes.{logs_keep_to_their_volumes}
 
 -- ---- parents stay within their volume
@@ -143,6 +144,7 @@ works_first sources number blocks nowhere = record {
     here = λ f later. map.get-empty fid_cmp f;
     there = λ f later given. nowhere f later.1 later.2 given;
   };
+  uncopied = λ volume f later. refl;
 }
 
 works_on : (sources : Sources) (s : ServingClient) (step : RoundStep) → IsAtWork sources s → MayStep sources s step
@@ -160,6 +162,7 @@ works_on sources s step w m =
       placed = k.placed;
       logs = k.logs;
       later = λ volume. later_objects_stay_free.stepped sources s step volume (w.later volume) m.may m.comes;
+      uncopied = uncopied_on sources s step w m.comes;
     }
 
 pub clients_stay_ready : ClientsStayReady
@@ -173,5 +176,7 @@ clients_stay_ready = record {
     placed = w.placed;
     logs = w.logs;
     later = λ volume. record { here = (w.later volume).here; there = none volume };
+    uncopied = w.uncopied;
   };
+  uncopied = uncopied_accepted;
 }

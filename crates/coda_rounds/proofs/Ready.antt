@@ -134,7 +134,7 @@ module _ (sources : Sources) (emulating : Bool) (volume : ℕ) (s : ServingClien
         nowhere = λ g e. ready.nowhere g (ap sources (sym same_next) ∙ e);
       }
 
-  ready_fetched : IsReady sources (serving_after s (Installed gone fid parent node server)) volume
+  pub ready_fetched : IsReady sources (serving_after s (Installed gone fid parent node server)) volume
   ready_fetched =
       subst
       (λ (c : ClientState). IsReady sources (record {
