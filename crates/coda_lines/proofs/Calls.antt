@@ -1,5 +1,5 @@
 -- What a client's call does in a cell that works: each step leaves what it says, and the cell works on.
-use Rattle.std.proofs.Common.{◌≡◌, ◌≢◌, ℕ, ◌&&◌, Bool, true, false, cond, List, [], ◌∷◌, ◌++◌, Option, Some, None, option_map, refl, sym, ap, ◌∙◌, subst, inl, inr}
+use Rattle.std.proofs.Common.{◌≡◌, ◌≢◌, ℕ, ◌&&◌, Bool, true, false, cond, List, [], ◌∷◌, ◌++◌, Option, Some, None, refl, sym, ap, ◌∙◌, subst, inl, inr}
 use Rattle.std.proofs.lemmas.Bool.{eq-eqb, cases_eq}
 use Rattle.coda_fid.specs.Fid.{same_fid}
 use Rattle.coda_fid.specs.declared.fid.Fid.{Fid}
@@ -27,7 +27,7 @@ use Rattle.coda_lines.specs.Lines.{making_room, stale, used_new, events_of_step,
 use Rattle.coda_lines.specs.Working.{client_in, HaveRuns, IsUnused, IsWorking}
 use Rattle.coda_lines.proofs.Besides.{kept_beside, AreBeside, beside_both, beside_left, IsBesideOf, all_beside, WorksOn, works_behind, works_both, group_works}
 use Rattle.coda_lines.proofs.Entries.{EntersStep, fetch_enters, operation_enters}
-use Rattle.coda_lines.proofs.Parts.{Parts, parts_of, parts_in, working_by}
+use Rattle.coda_lines.proofs.Parts.{server_in, copies_in, Parts, parts_of, fewer_in, parts_in, working_by}
 use Rattle.coda_lines.proofs.Steps.{IsGiven, AreGiven}
 
 -- ---- behind an entry and what is beside it
@@ -45,9 +45,6 @@ pub record IsEntered (cell first : MadeCell) (number blocks : ℕ) (sources : So
   pub uses : first.uses ≡ cell.uses
   pub sources_same : sources_of (state_of first) number ≡ sources_of (state_of cell) number
 
-abbrev server_in : Option Copy → Option ℕ
-server_in o = option_map (λ (copy : Copy). copy.server) o
-
 module _ (cell : MadeCell) (w : IsWorking cell) (number blocks : ℕ) (there : cell.sizes number ≡ Some blocks) (first : MadeCell) (sources : Sources) (s : ServingClient) (is : IsEntered cell first number blocks sources s) (besides : List Event) (are : AreBeside number besides) (uses_are : (grown_all first besides).uses number ≡ s.beside.uses) (copies_are : (f : Fid) → server_in ((grown_all first besides).copies number f) ≡ s.beside.copies f) where
   abbrev new : MadeCell
   new = grown_all first besides
@@ -61,19 +58,21 @@ module _ (cell : MadeCell) (w : IsWorking cell) (number blocks : ℕ) (there : c
   sizes_same : new.sizes ≡ cell.sizes
   sizes_same = ap (λ (x : MadeCell). x.sizes) left_beside.same ∙ is.sizes
 
-  parts : (n b : ℕ) → new.sizes n ≡ Some b → Parts (client_in new n b) (new.uses n)
+  parts : (n b : ℕ) → new.sizes n ≡ Some b → Parts (client_in new n b) (new.uses n) (copies_in new n)
   parts n b e = elim (cases_eq n number) [
     | inl same ↦ (
         let sized : Some blocks ≡ Some b = sym there ∙ ap cell.sizes (sym same) ∙ sym (ap (λ f. f n) sizes_same) ∙ e in
         let b_is : blocks ≡ b = cc in
-        subst (λ m. Parts (client_in new m b) (new.uses m)) (sym same)
-        (subst (λ x. Parts (client_in new number x) (new.uses number)) b_is
-        (subst (λ (c : ClientState). Parts c (new.uses number)) (sym (client_same number blocks))
-        (parts_of sources s (client_in first number blocks) (new.uses number) is.at_work is.client (sym uses_are) is.runs))))
+        subst (λ m. Parts (client_in new m b) (new.uses m) (copies_in new m)) (sym same)
+        (subst (λ x. Parts (client_in new number x) (new.uses number) (copies_in new number)) b_is
+        (subst (λ (c : ClientState). Parts c (new.uses number) (copies_in new number)) (sym (client_same number blocks))
+        (parts_of sources s (client_in first number blocks) (new.uses number) (copies_in new number) is.at_work is.client
+        (sym uses_are) copies_are is.runs))))
     | inr other ↦
-        subst (λ (c : ClientState). Parts c (new.uses n)) (sym (client_same n b ∙ is.others n b other))
-        (subst (Parts (client_in cell n b)) (sym (left_beside.uses n other ∙ ap (λ f. f n) is.uses))
-        (parts_in cell w n b (sym (ap (λ f. f n) sizes_same) ∙ e)))
+        subst (λ (c : ClientState). Parts c (new.uses n) (copies_in new n)) (sym (client_same n b ∙ is.others n b other))
+        (subst (λ uses. Parts (client_in cell n b) uses (copies_in new n)) (sym (left_beside.uses n other ∙ ap (λ f. f n) is.uses))
+        (fewer_in cell new n (client_in cell n b) (cell.uses n) (parts_in cell w n b (sym (ap (λ f. f n) sizes_same) ∙ e))
+        (λ f none. left_beside.copies n f other ∙ ap (λ x. x n f) is.copies ∙ none)))
   ]
 
   unmade : (client : ℕ) → new.sizes client ≡ None → IsUnused new client

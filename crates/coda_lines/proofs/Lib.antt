@@ -9,5 +9,6 @@ pub mod Calls
 pub mod Others
 pub mod OtherLines
 pub mod Lines
+pub mod Outcomes
 pub mod Staling
 pub mod Emulating

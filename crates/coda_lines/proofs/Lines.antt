@@ -42,7 +42,7 @@ use Rattle.coda_lines.proofs.Steps.{AreGiven, operating_steps, showing_steps}
 -- ---- calls
 
 -- where a refusal to show an object isn't that another is needed
-readable_itself : RefusesItself readable
+pub readable_itself : RefusesItself readable
 readable_itself node fid e = by node node.kind e
   where
     by : (node : Node) (kind : NodeKind) → readable node kind ≡ Err (Need fid) → ⊥
@@ -50,7 +50,7 @@ readable_itself node fid e = by node node.kind e
     by node (Link target) e = cc
     by node (Dir entries) e = cc
 
-listable_itself : RefusesItself listable
+pub listable_itself : RefusesItself listable
 listable_itself node fid e = by node node.kind e
   where
     by : (node : Node) (kind : NodeKind) → listable node kind ≡ Err (Need fid) → ⊥
@@ -74,7 +74,7 @@ module _ (cell : MadeCell) (w : IsWorking cell) where
       → AreGiven (sources_of (state_of cell) number) (serving_client (state_of cell) number (client_in cell number blocks)) steps
       × MayEnterSteps (serving_client (state_of cell) number (client_in cell number blocks)) steps
 
-  ready : (number blocks volume : ℕ) → cell.sizes number ≡ Some blocks
+  pub ready : (number blocks volume : ℕ) → cell.sizes number ≡ Some blocks
       → IsReady (sources_of (state_of cell) number) (serving_client (state_of cell) number (client_in cell number blocks)) volume
   ready number blocks volume there = clients_stay_ready.ready _ _ volume (w.at_work number blocks there)
 

@@ -19,7 +19,7 @@ use Rattle.coda_plain.specs.Deeds.{Deed, Operated, Froze, Settled, Gaveup, Cut, 
 use Rattle.coda_plain.specs.Moves.{AtClient, AtReplica, done_on}
 use Rattle.coda_venus.specs.Held.{Held}
 use Rattle.coda_venus.specs.History.{MayEnterAll, MayFreeze, IsFrozen}
-use Rattle.coda_venus.specs.State.{client_after_all as serving_client_after_all}
+use Rattle.coda_venus.specs.State.{ClientState as Client, client_after_all as serving_client_after_all}
 use Rattle.coda_cell.specs.Held.{held_after_deed}
 use Rattle.coda_cell.specs.Made.{Copy, MadeCell, client_of, state_of, grown, grown_all}
 use Rattle.coda_cell.specs.Runs.{IsKept, IsLeft}
@@ -32,7 +32,9 @@ use Rattle.coda_creations.specs.Kinds.{kind_at}
 use Rattle.coda_creations.proofs.KindsMade.{GoesByKinds, event_as_made}
 use Rattle.coda_matching.specs.Clients.{entry_of, payload_by}
 use Rattle.coda_matching.proofs.Histories.{steady_of}
+use Rattle.coda_rounds.specs.Later.{IsLater}
 use Rattle.coda_rounds.specs.Places.{AreInDirs, KeepsToVolume, ArePlaced, AreOfTheirVolumes}
+use Rattle.coda_rounds.proofs.Later.{later_before_all}
 use Rattle.coda_rounds.proofs.NewClient.{in_order}
 use Rattle.coda_rounds.proofs.Places.{objects_stand_where_made}
 use Rattle.coda_rounds.proofs.Volumes.{logs_keep_to_their_volumes}
@@ -42,7 +44,7 @@ use Rattle.coda_lines.specs.Working.{client_in, IsUnused, IsWorking, IsFair}
 use Rattle.coda_lines.proofs.AsClients.{runs_after, as_after, new_runs}
 use Rattle.coda_lines.proofs.Calls.{stale_beside}
 use Rattle.coda_lines.proofs.Besides.{kept_beside, WorksOn, group_works}
-use Rattle.coda_lines.proofs.Parts.{Parts, parts_in, working_by}
+use Rattle.coda_lines.proofs.Parts.{server_in, copies_in, Parts, fewer_in, parts_in, working_by}
 
 -- ---- copies that are not valid any more
 
@@ -60,7 +62,9 @@ stale_working cell number (fid ∷ fids) w =
           ((w.unmade client none).copies f);
       uses = (w.unmade client none).uses;
     })
-    (parts_in cell w)
+    (λ n b there. fewer_in cell (grown cell (Stale number (fid ∷ fids))) n (client_in cell n b) (cell.uses n)
+    (parts_in cell w n b there)
+    (λ f none. gone_none (cell.copies n f) ((n == number) && list_any (λ g. same_fid g f) (fid ∷ fids)) none))
 
 -- ---- events that enter nothing into the history of a client
 
@@ -134,7 +138,9 @@ module _ (cell : MadeCell) (w : IsWorking cell) where
       (λ c none. record {
         copies = λ f. cut_none strength cell.copies client server c f ((w.unmade c none).copies f);
         uses = (w.unmade c none).uses;
-      }) (parts_in cell w)
+      })
+      (λ n b there. fewer_in cell (grown cell (LinkSet client server strength)) n (client_in cell n b) (cell.uses n)
+      (parts_in cell w n b there) (λ f none. cut_none strength cell.copies client server n f none))
   silent_working (Entered (AtReplica server volume (Decided client number span))) is left =
       let event : Event = Entered (AtReplica server volume (Decided client number span)) in
       working_by (grown cell event) left.kept (event_as_made cell event left.kept.sound left.moved tt w.kinds)
@@ -152,7 +158,10 @@ module _ (cell : MadeCell) (w : IsWorking cell) where
       (λ c none. record {
         copies = λ f. gone_none (cell.copies c f) ((c == client) && list_any (λ g. same_fid g f) fids) ((w.unmade c none).copies f);
         uses = (w.unmade c none).uses;
-      }) (parts_in cell w)
+      })
+      (λ n b there. fewer_in cell (grown cell (Stale client fids)) n (client_in cell n b) (cell.uses n)
+      (parts_in cell w n b there)
+      (λ f none. gone_none (cell.copies n f) ((n == client) && list_any (λ g. same_fid g f) fids) none))
   silent_working (Entered (AtReplica server volume (Resolved objects lasts))) is left = absurd is
   silent_working (Entered (AtClient client entry)) is left = absurd is
   silent_working (ClientMade client blocks) is left = absurd is
@@ -172,23 +181,26 @@ module _ (cell : MadeCell) (w : IsWorking cell) where
         by true e = cc
         by false e = record { copies = (w.unmade c e).copies; uses = (w.unmade c e).uses }
 
-    new_parts : (b : ℕ) → Parts (new_client client b) []
+    new_parts : (b : ℕ) → Parts (new_client client b) [] (copies_in cell client)
     new_parts b = record {
       used = λ f there. absurd (nothing_there client b f there);
       once = (in_order client b).once;
       runs = new_runs client b;
       placed = objects_stand_where_made.first client b;
       logs = logs_keep_to_their_volumes.first client b;
+      uncopied = λ volume f later. ap server_in ((w.unmade client none).copies f);
     }
 
-    parts_then : (c b : ℕ) → cond (c == client) (Some blocks) (cell.sizes c) ≡ Some b → Parts (client_in cell c b) (cell.uses c)
+    parts_then : (c b : ℕ) → cond (c == client) (Some blocks) (cell.sizes c) ≡ Some b
+        → Parts (client_in cell c b) (cell.uses c) (copies_in cell c)
     parts_then c b e = by (c == client) refl e
       where
-        by : (x : Bool) → (c == client) ≡ x → cond x (Some blocks) (cell.sizes c) ≡ Some b → Parts (client_in cell c b) (cell.uses c)
+        by : (x : Bool) → (c == client) ≡ x → cond x (Some blocks) (cell.sizes c) ≡ Some b
+            → Parts (client_in cell c b) (cell.uses c) (copies_in cell c)
         by true same e =
-            subst (λ n. Parts (client_in cell n b) (cell.uses n)) (sym (eqb-true c client same))
-            (subst (λ h. Parts (client_of client h b) (cell.uses client)) (sym (w.kept.made.clients client none))
-            (subst (Parts (new_client client b)) (sym (w.unmade client none).uses) (new_parts b)))
+            subst (λ n. Parts (client_in cell n b) (cell.uses n) (copies_in cell n)) (sym (eqb-true c client same))
+            (subst (λ h. Parts (client_of client h b) (cell.uses client) (copies_in cell client)) (sym (w.kept.made.clients client none))
+            (subst (λ uses. Parts (new_client client b) uses (copies_in cell client)) (sym (w.unmade client none).uses) (new_parts b)))
         by false other e = parts_in cell w c b e
 
     pub made_working : IsWorking (grown cell (ClientMade client blocks))
@@ -222,7 +234,7 @@ module _ (cell : MadeCell) (w : IsWorking cell) where
     dirs : AreInDirs (as_client c).held
     dirs = (let work = w.at_work number blocks there in record { dirs = work.order.1; within = work.within })
 
-    parts_here : Parts (client_after c entry) (cell.uses number)
+    parts_here : Parts (client_after c entry) (cell.uses number) (copies_in cell number)
     parts_here =
         let before = parts_in cell w number blocks there in record {
           used = λ f has_it. before.used f (ap (λ (h : Held). is_some (map.get h.nodes f)) (sym (of_chunks_quiet deed of c.held c.number)) ∙ has_it);
@@ -232,18 +244,20 @@ module _ (cell : MadeCell) (w : IsWorking cell) where
               (objects_stand_where_made.then_too (as_client c) (entry_of entry) before.placed dirs (of_chunks_keeps volume deed of) may.0);
           logs = subst AreOfTheirVolumes as_then
               (logs_keep_to_their_volumes.then_too (as_client c) (entry_of entry) before.logs (of_chunks_keeps volume deed of));
+          uncopied = λ v f later. before.uncopied v f
+              (later_before_all (as_client c) (payload_by entry) v f (subst (λ (x : Client). IsLater x v f) (sym as_then) later));
         }
 
-    parts_behind : (n b : ℕ) → cell.sizes n ≡ Some b → Parts (client_in first n b) (cell.uses n)
+    parts_behind : (n b : ℕ) → cell.sizes n ≡ Some b → Parts (client_in first n b) (cell.uses n) (copies_in cell n)
     parts_behind n b e = elim (cases_eq n number) [
       | inl same ↦ (
           let sized : Some blocks ≡ Some b = sym there ∙ ap cell.sizes (sym same) ∙ e in
           let b_is : blocks ≡ b = cc in
-          subst (λ m. Parts (client_in first m b) (cell.uses m)) (sym same)
-          (subst (λ x. Parts (client_in first number x) (cell.uses number)) b_is
-          (subst (λ (x : ClientState). Parts x (cell.uses number)) (sym here) parts_here)))
+          subst (λ m. Parts (client_in first m b) (cell.uses m) (copies_in cell m)) (sym same)
+          (subst (λ x. Parts (client_in first number x) (cell.uses number) (copies_in cell number)) b_is
+          (subst (λ (x : ClientState). Parts x (cell.uses number) (copies_in cell number)) (sym here) parts_here)))
       | inr other ↦
-          subst (λ (a : Actor ClientEntry). Parts (client_of n a.history b) (cell.uses n)) (sym (more.others n other))
+          subst (λ (a : Actor ClientEntry). Parts (client_of n a.history b) (cell.uses n) (copies_in cell n)) (sym (more.others n other))
           (parts_in cell w n b e)
     ]
 

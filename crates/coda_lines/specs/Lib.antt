@@ -3,3 +3,4 @@ pub mod Lines
 pub mod Working
 pub mod Staling
 pub mod Emulating
+pub mod Outcomes

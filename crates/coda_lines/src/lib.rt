@@ -5,6 +5,7 @@
 ghost use Rattle.coda_lines.specs.Working.{LinesKeepCellsWorking, ReachedCachesAreInOrder, CallsLeaveWhatStepsLeave};
 ghost use Rattle.coda_lines.specs.Staling.{AppliedChunksLeaveNoCopies};
 ghost use Rattle.coda_lines.specs.Emulating.{ClientsEmulateWhenCutOff};
+ghost use Rattle.coda_lines.specs.Outcomes.{TasksHaveOutcomes};
 
 /// A law of lines: in a cell whose clients serve what they may and fetch in rounds, whatever a line does might happen
 /// to the actors, keeps the cell, and leaves each client ready for its next call; also a line that is stopped in front
@@ -35,4 +36,10 @@ pub fn applied_chunks_leave_no_copies()
 /// nothing of the volume; over any other link it doesn't, and it can fetch what the replica has.
 pub fn clients_emulate_when_cut_off()
     ensures { ClientsEmulateWhenCutOff }
+{}
+
+/// A law of tasks: in a cell that works each operation, read and listing has a reply and events, one of each, and
+/// fetches at most as many objects as its client's cache has blocks.
+pub fn tasks_have_outcomes()
+    ensures { TasksHaveOutcomes }
 {}
