@@ -181,14 +181,14 @@ calls_have_rounds = record {
 
 pub calls_fetch_few : CallsFetchFew
 calls_fetch_few = record {
-  operating = λ sources emulating refused done time volume ask s steps answer ready rounds.
-      rounds_fetch_few sources emulating volume (operating emulating refused done time volume ask)
+  operating = λ sources emulating refused done time volume ask s steps answer ready rounds. (let few = rounds_fetch_few sources emulating volume (operating emulating refused done time volume ask)
       (operating_unserved emulating refused done time volume ask)
       (operating_place emulating refused done time volume ask)
-      (operating_fetches_nothing emulating refused done time volume ask) [] s steps answer ready (none_fetched s) rounds;
-  showing = λ sources emulating refused show kind volume path s steps answer itself ready rounds.
-      rounds_fetch_few sources emulating volume (showing emulating refused show kind volume path)
+      (operating_fetches_nothing emulating refused done time volume ask) [] s steps answer ready (none_fetched s) rounds in
+      omega (arith, few));
+  showing = λ sources emulating refused show kind volume path s steps answer itself ready rounds. (let few = rounds_fetch_few sources emulating volume (showing emulating refused show kind volume path)
       (showing_unserved emulating refused show kind volume path itself)
       (showing_place emulating refused show kind volume path itself)
-      (showing_fetches_nothing emulating refused show kind volume path) [] s steps answer ready (none_fetched s) rounds;
+      (showing_fetches_nothing emulating refused show kind volume path) [] s steps answer ready (none_fetched s) rounds in
+      omega (arith, few));
 }
