@@ -1,17 +1,21 @@
 -- Each task of a client has an outcome, one alone, and fetches few objects.
-use Rattle.std.proofs.Common.{◌≡◌, ℕ, ◌+◌, ◌≤◌, Bool, List, [], length, Option, Some, None, is_some, true, option_map, refl, sym, ap, ◌∙◌, subst, arith}
+use Rattle.std.proofs.Common.{◌≡◌, ℕ, ◌≤◌, Bool, true, List, [], length, Option, Some, None, is_some, option_map}
+use Rattle.std.proofs.Common.{Result, refl, sym, ap, ◌∙◌, subst, arith}
 use Rattle.std.specs.Option.{unwrap_or}
 use Rattle.std.proofs.lemmas.Bool.{false≢true}
 use Rattle.std.proofs.lemmas.Option.{same_Some}
+use Rattle.coda_tree.specs.declared.node.Node.{Node}
+use Rattle.coda_tree.specs.declared.node.NodeKind.{NodeKind}
 use Rattle.coda_tree.specs.Bindings.{Name}
 use Rattle.coda_script.specs.declared.line.Task.{Task}
 use Rattle.coda_script.specs.declared.line.Task.TheVariants as task
 use Rattle.coda_script.specs.declared.reply.Reply.{Reply}
 use Rattle.coda_venus.specs.Ask.{Asked, Create, Mkdir, Symlink, Store, Setattr, Remove, Rmdir, Rename}
 use Rattle.coda_venus.specs.Keeping.{readable, listable}
-use Rattle.coda_venus.specs.Rounds.{RoundStep, Sources, ClientCall, Rounds}
+use Rattle.coda_venus.specs.Rounds.{RoundStep, Sources, ClientCall, Rounds, showing}
+use Rattle.coda_venus.specs.declared.refused.Refused.{Refused as Refusal}
 use Rattle.coda_venus.specs.Serving.{ServingClient}
-use Rattle.coda_cell.specs.Asking.{read_in, list_in}
+use Rattle.coda_cell.specs.Asking.{Said, read_in, list_in}
 use Rattle.coda_cell.specs.Made.{MadeCell, client_of, state_of}
 use Rattle.coda_cell.specs.Refused.{Refused}
 use Rattle.coda_cell.specs.Refusing.{refusal}
@@ -19,7 +23,8 @@ use Rattle.coda_cell.specs.State.{ClientState, CellState, Event}
 use Rattle.coda_cell.specs.Steps.{Doing, Unless, bytes_of, first_missing, client_named, volume_named, on_volume}
 use Rattle.coda_cell.proofs.Events.{are_there}
 use Rattle.coda_cell.proofs.KeptCells.{client_there}
-use Rattle.coda_rounds.specs.Laws.{fetched_in}
+use Rattle.coda_rounds.specs.Laws.{fetched_in, NeedsUnserved, AnswersFetchNothing, RefusesItself}
+use Rattle.coda_rounds.specs.Entering.{NeedsPlaced}
 use Rattle.coda_rounds.specs.Bounds.{HasRounds}
 use Rattle.coda_rounds.proofs.Answering.{operating_fetches_nothing, showing_fetches_nothing}
 use Rattle.coda_rounds.proofs.Bounds.{rounds_from, rounds_fetch_few}
@@ -28,7 +33,8 @@ use Rattle.coda_rounds.proofs.Fetched.{none_fetched}
 use Rattle.coda_rounds.proofs.OneOutcome.{rounds_are_one}
 use Rattle.coda_rounds.proofs.Unserved.{operating_unserved, showing_unserved}
 use Rattle.coda_lines.specs.Clients.{serving_client, sources_of, emulates}
-use Rattle.coda_lines.specs.Lines.{refused_for, done_as, shown_as, operation_on, read_on, list_on, events_of_steps, ByRounds, Calls, ServesTask}
+use Rattle.coda_lines.specs.Lines.{refused_for, done_as, shown_as, operation_on, read_on, list_on, events_of_steps}
+use Rattle.coda_lines.specs.Lines.{ByRounds, Calls, ServesTask}
 use Rattle.coda_lines.specs.Outcomes.{IsCall, TasksHaveOutcomes}
 use Rattle.coda_lines.specs.Working.{client_in, IsWorking}
 use Rattle.coda_lines.proofs.Lines.{readable_itself, listable_itself, ready}
@@ -42,8 +48,8 @@ module _ (cell : MadeCell) (w : IsWorking cell) where
   abbrev sources : ℕ → Sources
   sources number = sources_of (state_of cell) number
 
-  abbrev emulating : ℕ → ℕ → ℕ → Bool
-  emulating number blocks volume = emulates (state_of cell) number (client_in cell number blocks) volume
+  abbrev emulating : ℕ → ℕ → ClientState → Bool
+  emulating number volume c = emulates (state_of cell) number c volume
 
   -- a call of a client comes to an answer, and fetches few objects
   record IsBounded (number : ℕ) (call : ClientState → ClientCall Reply) : Type 0 where
@@ -53,59 +59,52 @@ module _ (cell : MadeCell) (w : IsWorking cell) where
         → Rounds (sources number) (call (client_in cell number blocks)) [] (client_serving number blocks) steps reply
         → length (fetched_in steps) ≤ (client_in cell number blocks).blocks
 
-  operations_bounded : (number volume : ℕ) (ask : Asked) → IsBounded number (operation_on (state_of cell) number volume ask)
-  operations_bounded number volume ask = record {
-    some = λ blocks there.
-        rounds_from (sources number) (emulating number blocks volume) volume
-        (operation_on (state_of cell) number volume ask (client_in cell number blocks))
-        (operating_unserved (emulating number blocks volume) refused_for done_as cell.clock volume ask)
-        (operating_place (emulating number blocks volume) refused_for done_as cell.clock volume ask) []
-        (client_serving number blocks) (ready cell w number blocks volume there) (none_fetched (client_serving number blocks));
-    few = λ blocks there steps reply rounds. (let few = rounds_fetch_few (sources number) (emulating number blocks volume) volume
-        (operation_on (state_of cell) number volume ask (client_in cell number blocks))
-        (operating_unserved (emulating number blocks volume) refused_for done_as cell.clock volume ask)
-        (operating_place (emulating number blocks volume) refused_for done_as cell.clock volume ask)
-        (operating_fetches_nothing (emulating number blocks volume) refused_for done_as cell.clock volume ask) []
-        (client_serving number blocks) steps reply (ready cell w number blocks volume there)
-        (none_fetched (client_serving number blocks)) rounds in omega (arith, few));
+  bounded_by : (number volume : ℕ) (call : ClientState → ClientCall Reply)
+      → ((c : ClientState) → NeedsUnserved (emulating number volume c) (call c))
+      → ((c : ClientState) → NeedsPlaced (call c)) → ((c : ClientState) → AnswersFetchNothing (call c))
+      → IsBounded number call
+  bounded_by number volume call needs place answering = record {
+    some = λ blocks there. (let c = client_in cell number blocks in
+        let s = client_serving number blocks in
+        rounds_from (sources number) (emulating number volume c) volume (call c) (needs c) (place c) [] s
+        (ready cell w number blocks volume there) (none_fetched s));
+    few = λ blocks there steps reply rounds. (let c = client_in cell number blocks in
+        let s = client_serving number blocks in
+        let few = rounds_fetch_few (sources number) (emulating number volume c) volume (call c) (needs c) (place c)
+        (answering c) [] s steps reply (ready cell w number blocks volume there) (none_fetched s) rounds in
+        omega (arith, few));
   }
 
-  reads_bounded : (number volume : ℕ) (path : List Name) → IsBounded number (read_on (state_of cell) number volume path)
-  reads_bounded number volume path = record {
-    some = λ blocks there.
-        rounds_from (sources number) (emulating number blocks volume) volume
-        (read_on (state_of cell) number volume path (client_in cell number blocks))
-        (showing_unserved (emulating number blocks volume) refused_for (shown_as read_in) readable volume path readable_itself)
-        (showing_place (emulating number blocks volume) refused_for (shown_as read_in) readable volume path readable_itself) []
-        (client_serving number blocks) (ready cell w number blocks volume there) (none_fetched (client_serving number blocks));
-    few = λ blocks there steps reply rounds. (let few = rounds_fetch_few (sources number) (emulating number blocks volume) volume
-        (read_on (state_of cell) number volume path (client_in cell number blocks))
-        (showing_unserved (emulating number blocks volume) refused_for (shown_as read_in) readable volume path readable_itself)
-        (showing_place (emulating number blocks volume) refused_for (shown_as read_in) readable volume path readable_itself)
-        (showing_fetches_nothing (emulating number blocks volume) refused_for (shown_as read_in) readable volume path) []
-        (client_serving number blocks) steps reply (ready cell w number blocks volume there)
-        (none_fetched (client_serving number blocks)) rounds in omega (arith, few));
-  }
+  operations_bounded : (number volume : ℕ) (ask : Asked)
+      → IsBounded number (operation_on (state_of cell) number volume ask)
+  operations_bounded number volume ask =
+      bounded_by number volume (operation_on (state_of cell) number volume ask)
+      (λ c. operating_unserved (emulating number volume c) refused_for done_as cell.clock volume ask)
+      (λ c. operating_place (emulating number volume c) refused_for done_as cell.clock volume ask)
+      (λ c. operating_fetches_nothing (emulating number volume c) refused_for done_as cell.clock volume ask)
 
-  lists_bounded : (number volume : ℕ) (path : List Name) → IsBounded number (list_on (state_of cell) number volume path)
-  lists_bounded number volume path = record {
-    some = λ blocks there.
-        rounds_from (sources number) (emulating number blocks volume) volume
-        (list_on (state_of cell) number volume path (client_in cell number blocks))
-        (showing_unserved (emulating number blocks volume) refused_for (shown_as list_in) listable volume path listable_itself)
-        (showing_place (emulating number blocks volume) refused_for (shown_as list_in) listable volume path listable_itself) []
-        (client_serving number blocks) (ready cell w number blocks volume there) (none_fetched (client_serving number blocks));
-    few = λ blocks there steps reply rounds. (let few = rounds_fetch_few (sources number) (emulating number blocks volume) volume
-        (list_on (state_of cell) number volume path (client_in cell number blocks))
-        (showing_unserved (emulating number blocks volume) refused_for (shown_as list_in) listable volume path listable_itself)
-        (showing_place (emulating number blocks volume) refused_for (shown_as list_in) listable volume path listable_itself)
-        (showing_fetches_nothing (emulating number blocks volume) refused_for (shown_as list_in) listable volume path) []
-        (client_serving number blocks) steps reply (ready cell w number blocks volume there)
-        (none_fetched (client_serving number blocks)) rounds in omega (arith, few));
-  }
+  -- a read or a listing
+  shown_bounded : (number volume : ℕ) (show : Bool → NodeKind → Said)
+      (kind : Node → NodeKind → Result Node Refusal) → RefusesItself kind → (path : List Name)
+      → IsBounded number (λ c. showing (emulating number volume c) refused_for (shown_as show) kind volume path)
+  shown_bounded number volume show kind itself path =
+      bounded_by number volume
+      (λ c. showing (emulating number volume c) refused_for (shown_as show) kind volume path)
+      (λ c. showing_unserved (emulating number volume c) refused_for (shown_as show) kind volume path itself)
+      (λ c. showing_place (emulating number volume c) refused_for (shown_as show) kind volume path itself)
+      (λ c. showing_fetches_nothing (emulating number volume c) refused_for (shown_as show) kind volume path)
+
+  reads_bounded : (number volume : ℕ) (path : List Name)
+      → IsBounded number (read_on (state_of cell) number volume path)
+  reads_bounded number volume path = shown_bounded number volume read_in readable readable_itself path
+
+  lists_bounded : (number volume : ℕ) (path : List Name)
+      → IsBounded number (list_on (state_of cell) number volume path)
+  lists_bounded number volume path = shown_bounded number volume list_in listable listable_itself path
 
   -- a client that is there was made
-  was_made : (number : ℕ) → is_some ((state_of cell).clients number) ≡ true → (blocks : ℕ) × (cell.sizes number ≡ Some blocks)
+  was_made : (number : ℕ) → is_some ((state_of cell).clients number) ≡ true
+      → (blocks : ℕ) × (cell.sizes number ≡ Some blocks)
   was_made number there = by (cell.sizes number) refl there
     where
       by : (o : Option ℕ) → cell.sizes number ≡ o
@@ -126,7 +125,8 @@ module _ (cell : MadeCell) (w : IsWorking cell) where
           → HasOutcome (Unless o (ByRounds (state_of cell) number call))
       by (Some why) e = (refusal why, [], (refl, refl))
       by None e =
-          let made = was_made number (are_there (client_named (state_of cell) number) (volume_named (state_of cell) volume) e).0 in
+          let there = are_there (client_named (state_of cell) number) (volume_named (state_of cell) volume) e in
+          let made = was_made number there.0 in
           let has = bounded.some made.0 made.1 in (
             has.1,
             events_of_steps number has.0,
@@ -172,8 +172,8 @@ module _ (cell : MadeCell) (w : IsWorking cell) where
       let c = client_there cell w.kept number did.client did.there in
       subst (λ (x : ClientState). length (fetched_in did.steps) ≤ x.blocks) c.2
       (bounded.few c.0 c.1 did.steps reply
-      (subst (λ (x : ClientState). Rounds (sources number) (call x) [] (serving_client (state_of cell) number x) did.steps reply)
-      (sym c.2) did.rounds))
+      (subst (λ (x : ClientState). Rounds (sources number) (call x) [] (serving_client (state_of cell) number x)
+      did.steps reply) (sym c.2) did.rounds))
 
 -- ---- there are not two
 
@@ -186,7 +186,8 @@ module _ (s : CellState) where
   rounds_one : (number : ℕ) (call : ClientState → ClientCall Reply) → IsOne (ByRounds s number call)
   rounds_one number call reply other events others first second =
       let same : first.client ≡ second.client = same_Some first.client second.client (sym first.there ∙ second.there) in
-      let rounds = subst (λ (c : ClientState). Rounds (sources_of s number) (call c) [] (serving_client s number c) first.steps reply) same first.rounds in
+      let rounds = subst (λ (c : ClientState). Rounds (sources_of s number) (call c) [] (serving_client s number c)
+      first.steps reply) same first.rounds in
       let one = rounds_are_one (sources_of s number) (call second.client) [] (serving_client s number second.client)
       first.steps second.steps reply other rounds second.rounds in
       (one.1, first.happened ∙ ap (events_of_steps number) one.0 ∙ sym second.happened)

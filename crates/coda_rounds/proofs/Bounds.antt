@@ -1,20 +1,15 @@
 -- Each call comes to an answer, and fetches few objects.
-use Rattle.std.proofs.Common.{◌≡◌, ℕ, zero, suc, ◌+◌, ◌≤◌, Bool, List, [], ◌∷◌, ◌++◌, length, length-append, Option, Result}
-use Rattle.std.proofs.Common.{Ok, Err, refl, sym, ap, ◌∙◌, subst, arith}
+use Rattle.std.proofs.Common.{◌≡◌, ℕ, zero, suc, ◌+◌, ◌≤◌, Bool, List, [], ◌∷◌, ◌++◌, length, length-append, Result}
+use Rattle.std.proofs.Common.{Ok, Err, refl, ap, arith}
 use Rattle.coda_fid.specs.declared.fid.Fid.{Fid}
-use Rattle.coda_fid.specs.declared.op.Record.{Record}
 use Rattle.coda_tree.specs.declared.node.Node.{Node}
-use Rattle.coda_tree.specs.declared.node.NodeKind.{NodeKind}
-use Rattle.coda_tree.specs.Bindings.{Name}
 use Rattle.coda_cache.specs.declared.fault.CacheFault.{CacheFault}
-use Rattle.coda_venus.specs.Ask.{Asked}
 use Rattle.coda_venus.specs.declared.refused.Refused.{Refused as Refusal}
-use Rattle.coda_venus.specs.declared.seen.Seen.{Seen}
 use Rattle.coda_venus.specs.Serving.{ServingClient}
-use Rattle.coda_venus.specs.Rounds.{RefusalCause, Because, why_full, RoundStep, Looked, Installed, Turned, CallResult}
-use Rattle.coda_venus.specs.Rounds.{Answered, Needs, CallTurn, ClientCall, Rounds, answers, fails, turned, again}
+use Rattle.coda_venus.specs.Rounds.{Because, why_full, RoundStep, Looked, Installed, Turned, CallResult}
+use Rattle.coda_venus.specs.Rounds.{Answered, Needs, ClientCall, Rounds, answers, fails, turned, again}
 use Rattle.coda_venus.specs.Rounds.{Sources, serving_after, parent_of_fetched, goes_for_fetch, operating, showing}
-use Rattle.coda_rounds.specs.Laws.{fetched_in, IsUnserved, NeedsUnserved, AnswersFetchNothing, RefusesItself}
+use Rattle.coda_rounds.specs.Laws.{fetched_in, IsUnserved, NeedsUnserved, AnswersFetchNothing}
 use Rattle.coda_rounds.specs.Entering.{IsPlaced, IsReady, NeedsPlaced}
 use Rattle.coda_rounds.specs.Bounds.{AreFetched, HasRounds, CallsHaveRounds, CallsFetchFew}
 use Rattle.coda_rounds.proofs.Answering.{operating_fetches_nothing, showing_fetches_nothing}
@@ -41,7 +36,9 @@ behind_fetch s looked gone fid node server =
     serving_after (serving_after s (Looked looked))
     (Installed gone fid (parent_of_fetched s.client.held fid) node server)
 
-module _ (emulating : Bool) (s : ServingClient) (looked : List Fid) (fid : Fid) (node : Node) (server : ℕ) (fetched gone : List Fid) (unserved : IsUnserved emulating s fid) (room : goes_for_fetch (serving_after s (Looked looked)) fid node fetched ≡ Ok gone) where
+module _ (emulating : Bool) (s : ServingClient) (looked : List Fid) (fid : Fid) (node : Node) (server : ℕ)
+    (fetched gone : List Fid) (unserved : IsUnserved emulating s fid)
+    (room : goes_for_fetch (serving_after s (Looked looked)) fid node fetched ≡ Ok gone) where
   -- a client that is ready is ready then
   pub fetched_ready : (sources : Sources) (volume : ℕ) → IsReady sources s volume → IsPlaced s fid
       → sources fid ≡ Ok (node, server) → IsReady sources (behind_fetch s looked gone fid node server) volume
@@ -64,7 +61,8 @@ module _ (emulating : Bool) (s : ServingClient) (looked : List Fid) (fid : Fid) 
 
 -- ---- rounds
 
-module _ (A : Type 0) (sources : Sources) (emulating : Bool) (volume : ℕ) (call : ClientCall A) (needs : NeedsUnserved emulating call) (place : NeedsPlaced call) where
+module _ (A : Type 0) (sources : Sources) (emulating : Bool) (volume : ℕ) (call : ClientCall A)
+    (needs : NeedsUnserved emulating call) (place : NeedsPlaced call) where
   turn_is : (fetched : List Fid) (s : ServingClient) (result : CallResult A) → (call.turn fetched s).comes_to ≡ result
       → call.turn fetched s ≡ record { looked = (call.turn fetched s).looked; comes_to = result }
   turn_is fetched s result e = λ i. record { looked = (call.turn fetched s).looked; comes_to = e i }
@@ -83,8 +81,11 @@ module _ (A : Type 0) (sources : Sources) (emulating : Bool) (volume : ℕ) (cal
     by_room : MoreRounds → (fid : Fid) (node : Node) (server : ℕ) (r : Result (List Fid) CacheFault)
         → call.turn fetched s ≡ record { looked = looked; comes_to = Needs fid } → sources fid ≡ Ok (node, server)
         → goes_for_fetch (serving_after s (Looked looked)) fid node fetched ≡ r → HasRounds sources call fetched s
-    by_room more fid node server (Err why) turn given room =
-        (Looked looked ∷ Turned fid server ∷ [], call.refused (why_full why), turned fetched s looked fid node server why turn given room)
+    by_room more fid node server (Err why) turn given room = (
+      Looked looked ∷ Turned fid server ∷ [],
+      call.refused (why_full why),
+      turned fetched s looked fid node server why turn given room,
+    )
     by_room more fid node server (Ok gone) turn given room =
         let rest = more fid node server gone turn given room in (
           Looked looked ∷ Installed gone fid (parent_of_fetched s.client.held fid) node server ∷ rest.0,
@@ -110,19 +111,23 @@ module _ (A : Type 0) (sources : Sources) (emulating : Bool) (volume : ℕ) (cal
   rounds_within : (n : ℕ) (fetched : List Fid) (s : ServingClient) → IsReady sources s volume → AreFetched s fetched
       → s.client.blocks ≤ n + length fetched → HasRounds sources call fetched s
   rounds_within zero fetched s ready are few = by_result fetched s (λ fid node server gone turn given room.
-      let unserved = needs fetched s (looked fetched s) fid turn in
-      let more = (fetched_behind emulating s (looked fetched s) fid node server fetched gone unserved room sources volume ready are).few in
-      let same = blocks_behind emulating s (looked fetched s) fid node server fetched gone unserved room in
+      let looks = looked fetched s in
+      let unserved = needs fetched s looks fid turn in
+      let then_are =
+      fetched_behind emulating s looks fid node server fetched gone unserved room sources volume ready are in
+      let more = then_are.few in
+      let same = blocks_behind emulating s looks fid node server fetched gone unserved room in
       let longer = length-append fetched (fid ∷ []) in
       absurd (omega (arith, few, more, same, longer))) (call.turn fetched s).comes_to refl
   rounds_within (suc n) fetched s ready are few = by_result fetched s (λ fid node server gone turn given room.
-      let unserved = needs fetched s (looked fetched s) fid turn in
-      let placed = place fetched s (looked fetched s) fid turn in
-      let same = blocks_behind emulating s (looked fetched s) fid node server fetched gone unserved room in
+      let looks = looked fetched s in
+      let unserved = needs fetched s looks fid turn in
+      let placed = place fetched s looks fid turn in
+      let same = blocks_behind emulating s looks fid node server fetched gone unserved room in
       let longer = length-append fetched (fid ∷ []) in
-      rounds_within n (fetched ++ fid ∷ []) (behind_fetch s (looked fetched s) gone fid node server)
-      (fetched_ready emulating s (looked fetched s) fid node server fetched gone unserved room sources volume ready placed given)
-      (fetched_behind emulating s (looked fetched s) fid node server fetched gone unserved room sources volume ready are)
+      rounds_within n (fetched ++ fid ∷ []) (behind_fetch s looks gone fid node server)
+      (fetched_ready emulating s looks fid node server fetched gone unserved room sources volume ready placed given)
+      (fetched_behind emulating s looks fid node server fetched gone unserved room sources volume ready are)
       (omega (arith, few, same, longer))) (call.turn fetched s).comes_to refl
 
   -- what a call fetches, with what was fetched before, is no more than the cache has blocks
@@ -137,7 +142,8 @@ module _ (A : Type 0) (sources : Sources) (emulating : Bool) (volume : ℕ) (cal
       (let few = are.few in omega (arith, few))
   few_within answering fetched s steps answer ready are (turned f' s' looked fid node server why e given full) =
       (let few = are.few in omega (arith, few))
-  few_within answering fetched s steps answer ready are (again f' s' looked fid node server gone later a e given room rest) =
+  few_within answering fetched s steps answer ready are
+      (again f' s' looked fid node server gone later a e given room rest) =
       let unserved = needs fetched s looked fid e in
       let placed = place fetched s looked fid e in
       let more = few_within answering (fetched ++ fid ∷ []) (behind_fetch s looked gone fid node server) later a
@@ -181,14 +187,20 @@ calls_have_rounds = record {
 
 pub calls_fetch_few : CallsFetchFew
 calls_fetch_few = record {
-  operating = λ sources emulating refused done time volume ask s steps answer ready rounds. (let few = rounds_fetch_few sources emulating volume (operating emulating refused done time volume ask)
+  operating = λ sources emulating refused done time volume ask s steps answer ready rounds.
+      (let call = operating emulating refused done time volume ask in
+      let few = rounds_fetch_few sources emulating volume call
       (operating_unserved emulating refused done time volume ask)
       (operating_place emulating refused done time volume ask)
-      (operating_fetches_nothing emulating refused done time volume ask) [] s steps answer ready (none_fetched s) rounds in
+      (operating_fetches_nothing emulating refused done time volume ask) [] s steps answer ready (none_fetched s)
+      rounds in
       omega (arith, few));
-  showing = λ sources emulating refused show kind volume path s steps answer itself ready rounds. (let few = rounds_fetch_few sources emulating volume (showing emulating refused show kind volume path)
+  showing = λ sources emulating refused show kind volume path s steps answer itself ready rounds.
+      (let call = showing emulating refused show kind volume path in
+      let few = rounds_fetch_few sources emulating volume call
       (showing_unserved emulating refused show kind volume path itself)
       (showing_place emulating refused show kind volume path itself)
-      (showing_fetches_nothing emulating refused show kind volume path) [] s steps answer ready (none_fetched s) rounds in
+      (showing_fetches_nothing emulating refused show kind volume path) [] s steps answer ready (none_fetched s)
+      rounds in
       omega (arith, few));
 }

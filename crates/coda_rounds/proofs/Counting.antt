@@ -1,5 +1,5 @@
 -- Items of different objects have a block each at least.
-use Rattle.std.proofs.Common.{◌≡◌, ℕ, ◌+◌, ◌≤◌, Bool, true, false, cond, not, List, [], ◌∷◌, length, refl, sym, ap, ◌∙◌, subst}
+use Rattle.std.proofs.Common.{◌≡◌, ◌+◌, ◌≤◌, Bool, true, false, cond, not, List, [], ◌∷◌, length, sym, ap, ◌∙◌, subst}
 use Rattle.std.proofs.Common.{inl, inr, arith}
 use Rattle.std.proofs.lemmas.Bool.{or_left, or_right, false≢true, not_from_false}
 use Rattle.std.specs.List.{filter}
@@ -21,7 +21,8 @@ fewer : (test : Item → Bool) (items : List Item) → blocks_of (filter test it
 fewer test [] = omega arith
 fewer test (j ∷ items) =
     let less = fewer test items in
-    elim (test j) as (λ b. blocks_of (cond b (j ∷ filter test items) (filter test items)) ≤ j.blocks + blocks_of items) [
+    let left : List Item = filter test items in
+    elim (test j) as (λ b. blocks_of (cond b (j ∷ left) left) ≤ j.blocks + blocks_of items) [
       | true ↦ omega (arith, less)
       | false ↦ omega (arith, less)
     ]
@@ -32,12 +33,14 @@ blocks_without [] i h = absurd h
 blocks_without (j ∷ items) i (inl same) =
     let less = fewer (λ (x : Item). not (same_fid x.fid i.fid)) items in
     let own : j.blocks ≡ i.blocks = ap (λ (x : Item). x.blocks) same in
-    subst
-    (λ b. i.blocks + blocks_of (cond (not b) (j ∷ without i.fid items) (without i.fid items)) ≤ j.blocks + blocks_of items)
+    let left : List Item = without i.fid items in
+    subst (λ b. i.blocks + blocks_of (cond (not b) (j ∷ left) left) ≤ j.blocks + blocks_of items)
     (sym (ap (λ (x : Item). same_fid x.fid i.fid) same ∙ same_fid_refl i.fid)) (omega (arith, less, own))
 blocks_without (j ∷ items) i (inr more) =
     let rest = blocks_without items i more in
-    elim (same_fid j.fid i.fid) as (λ b. i.blocks + blocks_of (cond (not b) (j ∷ without i.fid items) (without i.fid items)) ≤ j.blocks + blocks_of items) [
+    let left : List Item = without i.fid items in
+    let own : Bool = same_fid j.fid i.fid in
+    elim own as (λ b. i.blocks + blocks_of (cond (not b) (j ∷ left) left) ≤ j.blocks + blocks_of items) [
       | true ↦ omega (arith, rest)
       | false ↦ omega (arith, rest)
     ]
@@ -53,6 +56,8 @@ few_fids (g ∷ fids) items different have =
     let block = own.3 in
     let rest = few_fids fids (without i.fid items) different.1 (λ f on.
     let one = have f (or_right (same_fid g f) (is_listed fids f) on) in
-    let off : same_fid one.0.fid i.fid ≡ false = fid_other one.0.fid i.fid (λ same. false≢true (sym different.0 ∙ ap (is_listed fids) (sym own.2 ∙ sym same ∙ one.2) ∙ on)) in
-    (one.0, in_filter (λ (x : Item). not (same_fid x.fid i.fid)) items one.0 one.1 (not_from_false _ off), one.2, one.3)) in
+    let off : same_fid one.0.fid i.fid ≡ false = fid_other one.0.fid i.fid
+    (λ same. false≢true (sym different.0 ∙ ap (is_listed fids) (sym own.2 ∙ sym same ∙ one.2) ∙ on)) in
+    let there = in_filter (λ (x : Item). not (same_fid x.fid i.fid)) items one.0 one.1 (not_from_false _ off) in
+    (one.0, there, one.2, one.3)) in
     omega (arith, less, block, rest)

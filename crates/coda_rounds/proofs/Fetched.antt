@@ -1,6 +1,6 @@
 -- Objects that a line fetched are cached together, so they are few.
-use Rattle.std.proofs.Common.{◌≡◌, ℕ, ◌≤◌, Bool, true, false, cond, ◌||◌, if◌then◌else◌, List, [], ◌∷◌, ◌++◌, length, Option}
-use Rattle.std.proofs.Common.{Some, None, is_some, Ok, refl, sym, ap, ◌∙◌, subst, ⊎_elim, inl, inr, arith}
+use Rattle.std.proofs.Common.{◌≡◌, ℕ, ◌≤◌, Bool, true, false, cond, ◌||◌, if◌then◌else◌, List, [], ◌∷◌, ◌++◌, length}
+use Rattle.std.proofs.Common.{Option, Some, None, is_some, Ok, refl, sym, ap, ◌∙◌, subst, ⊎_elim, inl, inr, arith}
 use Rattle.std.proofs.lemmas.Bool.{or_left, or_right, or_parts, false≢true, false_from_ne_true}
 use Rattle.std.proofs.lemmas.Option.{none-some}
 use Rattle.std.specs.Prelude as prelude
@@ -17,7 +17,7 @@ use Rattle.coda_tree.specs.Volume.{has}
 use Rattle.coda_tree.proofs.Parents.{parent_sound, there_node}
 use Rattle.coda_cancel.proofs.Keys.{fid_false, fid_other}
 use Rattle.coda_walk.specs.declared.item.Item.{Item}
-use Rattle.coda_walk.specs.Going.{blocks_of, is_listed}
+use Rattle.coda_walk.specs.Going.{is_listed}
 use Rattle.coda_walk.specs.Laws.{Among, left, GoRightly}
 use Rattle.coda_cache.specs.Laws.{MayHold}
 use Rattle.coda_cache.specs.State.{CacheState, is_cached, blocks_at}
@@ -25,7 +25,7 @@ use Rattle.coda_cache.specs.Room.{item_of, items_of, new_item, item_after, items
 use Rattle.coda_cache.proofs.Rightly.{goes_rightly_for}
 use Rattle.coda_venus.specs.State.{ClientState}
 use Rattle.coda_venus.specs.Serving.{ServingClient, cache_of}
-use Rattle.coda_venus.specs.Rounds.{RoundStep, Installed, serving_after, parent_of_fetched_by, parent_of_fetched, goes_for_fetch}
+use Rattle.coda_venus.specs.Rounds.{Installed, serving_after, parent_of_fetched_by, parent_of_fetched, goes_for_fetch}
 use Rattle.coda_record.specs.declared.entry.ClientEntry.TheVariants as entry
 use Rattle.coda_rounds.specs.Laws.{IsUnserved, AreAllDifferent}
 use Rattle.coda_rounds.specs.Entering.{IsInOrder}
@@ -60,7 +60,10 @@ one_block (Link target) = omega arith
 one_block (Dir entries) = omega arith
 
 put_blocks : (f : Fid) (blocks : ℕ) (i : Item) → 1 ≤ blocks → 1 ≤ i.blocks → 1 ≤ (item_after f blocks i).blocks
-put_blocks f blocks i new old = elim (same_fid i.fid f) as (λ b. 1 ≤ (cond b (record i { blocks = blocks }) i).blocks) [ true ↦ new | false ↦ old ]
+put_blocks f blocks i new old = elim (same_fid i.fid f) as (λ b. 1 ≤ (cond b (record i { blocks = blocks }) i).blocks) [
+  | true ↦ new
+  | false ↦ old
+]
 
 at_last : (items : List Item) (i : Item) → Among i (items ++ i ∷ [])
 at_last [] i = inl refl
@@ -75,7 +78,8 @@ blocks_then s gone fid parent node server =
 
 -- ---- a fetch for which there is room
 
-module _ (s : ServingClient) (order : IsInOrder s) (fid : Fid) (node : Node) (fetched gone : List Fid) (room : goes_for_fetch s fid node fetched ≡ Ok gone) where
+module _ (s : ServingClient) (order : IsInOrder s) (fid : Fid) (node : Node) (fetched gone : List Fid)
+    (room : goes_for_fetch s fid node fetched ≡ Ok gone) where
   abbrev cache : CacheState
   cache = cache_of s
 
@@ -87,6 +91,12 @@ module _ (s : ServingClient) (order : IsInOrder s) (fid : Fid) (node : Node) (fe
 
   abbrev items : List Item
   items = items_with cache fid parent (blocks_in node.kind)
+
+  -- the same, by whether it is cached
+  abbrev items_by : Bool → List Item
+  items_by b =
+      if b then prelude.map (item_after fid (blocks_in node.kind)) (items_of cache)
+      else items_of cache ++ new_item cache fid parent (blocks_in node.kind) ∷ []
 
   -- the directory under which it is put is cached
   may_hold : MayHold cache fid parent
@@ -115,7 +125,7 @@ module _ (s : ServingClient) (order : IsInOrder s) (fid : Fid) (node : Node) (fe
   item_then : (i : Item) → Among i (items_of cache) → 1 ≤ i.blocks → HasBlocks items i.fid
   item_then i h some = by (is_cached cache fid)
     where
-      by : (b : Bool) → HasBlocks (if b then prelude.map (item_after fid (blocks_in node.kind)) (items_of cache) else items_of cache ++ new_item cache fid parent (blocks_in node.kind) ∷ []) i.fid
+      by : (b : Bool) → HasBlocks (items_by b) i.fid
       by true = (
         item_after fid (blocks_in node.kind) i,
         into_put fid (blocks_in node.kind) (items_of cache) i h,
@@ -136,9 +146,7 @@ module _ (s : ServingClient) (order : IsInOrder s) (fid : Fid) (node : Node) (fe
       by : (b : Bool) → is_cached cache fid ≡ b → HasBlocks items fid
       by true there = cached_item fid there
       by false absent =
-          subst
-          (λ b. HasBlocks (if b then prelude.map (item_after fid (blocks_in node.kind)) (items_of cache) else items_of cache ++ new_item cache fid parent (blocks_in node.kind) ∷ []) fid)
-          (sym absent) (
+          subst (λ b. HasBlocks (items_by b) fid) (sym absent) (
             new_item cache fid parent (blocks_in node.kind),
             at_last (items_of cache) (new_item cache fid parent (blocks_in node.kind)),
             refl,
@@ -147,13 +155,18 @@ module _ (s : ServingClient) (order : IsInOrder s) (fid : Fid) (node : Node) (fe
 
   -- what is kept is left
   left_item : (g : Fid) → is_listed kept g ≡ true → HasBlocks items g → HasBlocks (left gone items) g
-  left_item g on h =
-      (h.0, rightly.spared h.0 h.1 (or_right h.0.pinned (is_listed kept h.0.fid) (ap (is_listed kept) h.2 ∙ on)), h.2, h.3)
+  left_item g on h = (
+    h.0,
+    rightly.spared h.0 h.1 (or_right h.0.pinned (is_listed kept h.0.fid) (ap (is_listed kept) h.2 ∙ on)),
+    h.2,
+    h.3,
+  )
 
   module _ (emulating : Bool) (are : AreFetched s fetched) (unserved : IsUnserved emulating s fid) where
     -- it is none of those that were fetched
     pub another : is_listed fetched fid ≡ false
-    another = false_from_ne_true _ (λ h. copied (s.beside.copies fid) (are.valid fid h) (unserved.stale (are.cached fid h)))
+    another = false_from_ne_true _
+        (λ h. copied (s.beside.copies fid) (are.valid fid h) (unserved.stale (are.cached fid h)))
       where
         copied : (o : Option ℕ) → is_some o ≡ true → o ≡ None → ⊥
         copied None some e = false≢true some
@@ -168,7 +181,8 @@ module _ (s : ServingClient) (order : IsInOrder s) (fid : Fid) (node : Node) (fe
         let count = few_fids (fetched ++ fid ∷ []) (left gone items) different_then (λ g on. ⊎_elim
         (λ (was : is_listed fetched g ≡ true).
         let there : has s.client.held.nodes g ≡ true = are.cached g was in
-        left_item g (listed s fid node fetched g was (inr (recent_from s g there (order.orderly.used g there)))) (cached_item g there))
+        left_item g (listed s fid node fetched g was (inr (recent_from s g there (order.orderly.used g there))))
+        (cached_item g there))
         (λ (same : fid ≡ g). subst (λ x. HasBlocks (left gone items) x) same
         (left_item fid (or_left (same_fid fid fid) _ (same_fid_refl fid)) own_item))
         (listed_last fetched fid g on)) in
@@ -187,7 +201,8 @@ module _ (s : ServingClient) (order : IsInOrder s) (fid : Fid) (node : Node) (fe
         same (here s gone fid parent node server))
         (listed_last fetched fid g on)
 
-    then_fetched : (server : ℕ) → AreFetched (serving_after s (Installed gone fid parent node server)) (fetched ++ fid ∷ [])
+    then_fetched : (server : ℕ)
+        → AreFetched (serving_after s (Installed gone fid parent node server)) (fetched ++ fid ∷ [])
     then_fetched server = record {
       different = different_then;
       cached = λ g on. (valid_then server g on).0;

@@ -1,13 +1,13 @@
 -- A call has one outcome.
-use Rattle.std.proofs.Common.{◌≡◌, ℕ, Bool, List, [], ◌∷◌, ◌++◌, Option, Result, Ok, Err, sym, ap, ◌∙◌, subst}
+use Rattle.std.proofs.Common.{◌≡◌, ℕ, List, [], ◌∷◌, ◌++◌, Result, Ok, Err, sym, ap, ◌∙◌, subst}
 use Rattle.coda_fid.specs.declared.fid.Fid.{Fid}
 use Rattle.coda_tree.specs.declared.node.Node.{Node}
 use Rattle.coda_cache.specs.declared.fault.CacheFault.{CacheFault}
 use Rattle.coda_venus.specs.declared.refused.Refused.{Refused as Refusal}
 use Rattle.coda_venus.specs.Serving.{ServingClient}
-use Rattle.coda_venus.specs.Rounds.{Because, why_full, RoundStep, Looked, Installed, Turned, CallResult, Answered, Needs}
-use Rattle.coda_venus.specs.Rounds.{CallTurn, ClientCall, Rounds, answers, fails, turned, again, Sources, serving_after}
-use Rattle.coda_venus.specs.Rounds.{parent_of_fetched, goes_for_fetch}
+use Rattle.coda_venus.specs.Rounds.{Because, why_full, RoundStep, Looked, Installed, Turned, CallResult, Answered}
+use Rattle.coda_venus.specs.Rounds.{Needs, CallTurn, ClientCall, Rounds, answers, fails, turned, again, Sources}
+use Rattle.coda_venus.specs.Rounds.{serving_after, parent_of_fetched, goes_for_fetch}
 use Rattle.coda_rounds.specs.Bounds.{RoundsAreOne}
 
 -- what is done once is done
@@ -20,8 +20,8 @@ one_value x y e = cc
 never_both : {A B : Type 0} (x : A) (y : B) → (let r : Result A B = Ok x in r ≡ Err y) → ⊥
 never_both x y e = cc
 
-one_answer : {A : Type 0} (own more : List RoundStep) (a b : A) → (let r : CallResult A = Answered own a in r ≡ Answered more b)
-    → (own ≡ more) × (a ≡ b)
+one_answer : {A : Type 0} (own more : List RoundStep) (a b : A)
+    → (let r : CallResult A = Answered own a in r ≡ Answered more b) → (own ≡ more) × (a ≡ b)
 one_answer own more a b e = (cc, cc)
 
 one_need : {A : Type 0} (f g : Fid) → (let r : CallResult A = Needs f in r ≡ Needs g) → f ≡ g
@@ -33,7 +33,9 @@ answers_or_needs own a f e = cc
 
 module _ (A : Type 0) (sources : Sources) (call : ClientCall A) (fetched : List Fid) (s : ServingClient) where
   -- a turn is one
-  module _ (looked again_looked : List Fid) (x y : CallResult A) (e : call.turn fetched s ≡ record { looked = looked; comes_to = x }) (f : call.turn fetched s ≡ record { looked = again_looked; comes_to = y }) where
+  module _ (looked again_looked : List Fid) (x y : CallResult A)
+      (e : call.turn fetched s ≡ record { looked = looked; comes_to = x })
+      (f : call.turn fetched s ≡ record { looked = again_looked; comes_to = y }) where
     one_look : looked ≡ again_looked
     one_look = ap (λ (t : CallTurn A). t.looked) (sym e ∙ f)
 
@@ -56,7 +58,8 @@ module _ (A : Type 0) (sources : Sources) (call : ClientCall A) (fetched : List 
   at_answer looked own answer e others other (again f' s' l fid node server gone later a f given room rest) =
       absurd (answers_or_needs own answer fid (one_result looked l _ _ e f))
 
-  module _ (looked : List Fid) (fid : Fid) (e : call.turn fetched s ≡ record { looked = looked; comes_to = Needs fid }) where
+  module _ (looked : List Fid) (fid : Fid)
+      (e : call.turn fetched s ≡ record { looked = looked; comes_to = Needs fid }) where
     -- that needs what can't be fetched
     at_missing : (why : Refusal) → sources fid ≡ Err why → (others : List RoundStep) (other : A)
         → Rounds sources call fetched s others other
@@ -95,8 +98,10 @@ module _ (A : Type 0) (sources : Sources) (call : ClientCall A) (fetched : List 
 
       -- the rounds behind a fetch
       abbrev Behind : List Fid → Fid → Node → ℕ → List Fid → List RoundStep → A → Type 0
-      Behind l g n m went after a = Rounds sources call (fetched ++ g ∷ [])
-          (serving_after (serving_after s (Looked l)) (Installed went g (parent_of_fetched s.client.held g) n m)) after a
+      Behind l g n m went after a =
+          Rounds sources call (fetched ++ g ∷ [])
+          (serving_after (serving_after s (Looked l)) (Installed went g (parent_of_fetched s.client.held g) n m)) after
+          a
 
       -- that needs what there is no room for
       at_full : (why : CacheFault) → room_for looked fid node ≡ Err why → (others : List RoundStep) (other : A)
@@ -133,9 +138,14 @@ module _ (A : Type 0) (sources : Sources) (call : ClientCall A) (fetched : List 
       at_fetch gone later answer room one others other (again f' s' l g n m went after a f there room_then rest) =
           let is = one_fetch l g n m f there in
           let same : gone ≡ went = one_value gone went (sym room ∙ same_room l g n is.0 is.1 is.2 ∙ room_then) in
-          let moved : Behind looked fid node server gone after a ≡ Behind l g n m went after a = (λ i. Behind (is.0 i) (is.1 i) (is.2 i) (is.3 i) (same i) after a) in
-          let more = one after a (subst (λ (T : Type 0). T) (sym moved) rest) in
-          ((λ i. Looked (is.0 i) ∷ Installed (same i) (is.1 i) (parent_of_fetched s.client.held (is.1 i)) (is.2 i) (is.3 i) ∷ more.0 i), more.1)
+          let moved : Behind looked fid node server gone after a ≡ Behind l g n m went after a =
+          (λ i. Behind (is.0 i) (is.1 i) (is.2 i) (is.3 i) (same i) after a) in
+          let more = one after a (subst (λ (T : Type 0). T) (sym moved) rest) in (
+            (λ i. Looked (is.0 i)
+                ∷ Installed (same i) (is.1 i) (parent_of_fetched s.client.held (is.1 i)) (is.2 i) (is.3 i)
+                ∷ more.0 i),
+            more.1,
+          )
 
 -- whatever the answers are
 pub rounds_are_one : {A : Type 0} (sources : Sources) (call : ClientCall A) (fetched : List Fid) (s : ServingClient)
@@ -145,13 +155,16 @@ rounds_are_one {A} sources call fetched s steps others answer other (answers f' 
     at_answer A sources call fetched s looked own a e others other second
 rounds_are_one {A} sources call fetched s steps others answer other (fails f' s' looked fid why e none) second =
     at_missing A sources call fetched s looked fid e why none others other second
-rounds_are_one {A} sources call fetched s steps others answer other (turned f' s' looked fid node server why e given full) second =
+rounds_are_one {A} sources call fetched s steps others answer other
+    (turned f' s' looked fid node server why e given full) second =
     at_full A sources call fetched s looked fid e node server given why full others other second
-rounds_are_one {A} sources call fetched s steps others answer other (again f' s' looked fid node server gone later a e given room rest) second =
+rounds_are_one {A} sources call fetched s steps others answer other
+    (again f' s' looked fid node server gone later a e given room rest) second =
     at_fetch A sources call fetched s looked fid e node server given gone later a room
     (λ more told third. rounds_are_one sources call (fetched ++ fid ∷ [])
-    (serving_after (serving_after s (Looked looked)) (Installed gone fid (parent_of_fetched s.client.held fid) node server))
-    later more a told rest third) others other second
+    (serving_after (serving_after s (Looked looked))
+    (Installed gone fid (parent_of_fetched s.client.held fid) node server)) later more a told rest third)
+    others other second
 
 pub rounds_are_one_law : RoundsAreOne
 rounds_are_one_law sources call fetched s steps others answer other first second =

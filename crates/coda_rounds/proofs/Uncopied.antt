@@ -1,7 +1,6 @@
 -- What a client creates later has no valid copy.
-use Rattle.std.proofs.Common.{◌≡◌, ℕ, ◌+◌, Bool, true, false, cond, List, Option, Some, None, Ok, refl, sym, ap, ◌∙◌, subst}
+use Rattle.std.proofs.Common.{◌≡◌, ℕ, Bool, true, false, cond, List, Option, Some, None, Ok, refl, ap, ◌∙◌}
 use Rattle.coda_fid.specs.declared.fid.Fid.{Fid}
-use Rattle.coda_fid.specs.declared.op.Op.{Op}
 use Rattle.coda_fid.specs.declared.op.Record.{Record}
 use Rattle.coda_cancel.proofs.Keys.{fid_other}
 use Rattle.coda_walk.specs.Going.{is_listed}
@@ -32,7 +31,8 @@ pub uncopied_on : (sources : Sources) (s : ServingClient) (step : RoundStep) →
 uncopied_on sources s (Looked fids) w comes volume f later = w.uncopied volume f later
 uncopied_on sources s (Turned fid server) w comes volume f later = w.uncopied volume f later
 uncopied_on sources s (Installed gone fid parent node server) w comes volume f later =
-    let was : IsLater s.client volume f = later_before_all s.client (entries_of_step (Installed gone fid parent node server)) volume f later in
+    let step : RoundStep = Installed gone fid parent node server in
+    let was : IsLater s.client volume f = later_before_all s.client (entries_of_step step) volume f later in
     ap (λ b. cond b (Some server) (copies_without s.beside.copies gone f))
     (fid_other f fid (λ same. (w.later volume).there f was (node, server) (ap sources same ∙ comes)))
     ∙ no_copy s.beside.copies gone f (w.uncopied volume f was)
@@ -44,7 +44,9 @@ uncopied_on sources s (Performed gone at rec) w comes volume f later =
 pub uncopied_accepted : (sources : Sources) (emulating : Bool) (s : ServingClient) (time volume : ℕ) (ask : Asked)
     (rec : Record) → IsAtWork sources s → accepted emulating s time volume ask ≡ Ok rec → IsUncopied s rec.op
 uncopied_accepted sources emulating s time volume ask rec w is dir f made =
-    let a = was_accepted (s.client.volumes volume) time (accept (sight_of (serving emulating s) volume) volume ask) rec is in
+    let seen = sight_of (serving emulating s) volume in
+    let a = was_accepted (s.client.volumes volume) time (accept seen volume ask) rec is in
     let makes : new_node a.0 ≡ Some (dir, f) = ap (λ (r : Record). new_node r.op) a.2 ∙ made in
-    let next : f ≡ next_fid (sight_of s.client volume) volume = made_next (sight_of (serving emulating s) volume) volume a.0 dir f (accepted_relies (sight_of (serving emulating s) volume) volume ask a.0 a.1) makes in
-    ap s.beside.copies next ∙ w.uncopied volume (next_fid (sight_of s.client volume) volume) (next_later s.client volume)
+    let own : Fid = next_fid (sight_of s.client volume) volume in
+    let next : f ≡ own = made_next seen volume a.0 dir f (accepted_relies seen volume ask a.0 a.1) makes in
+    ap s.beside.copies next ∙ w.uncopied volume own (next_later s.client volume)
